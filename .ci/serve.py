@@ -28,7 +28,9 @@ sys.path.insert(0, os.path.join(TOP, "clients", "python"))
 from sharebroker.batches import MAX_BATCH_BYTES, BatchBuilder, read_batches  # noqa: E402
 from sharebroker.connection import Connection, check_versions  # noqa: E402
 from sharebroker.errors import ConnectionLost, NotSent, Unreachable  # noqa: E402
-from sharebroker.messages import PRODUCE, ProducePartition, ProduceRequest, ProduceTopic  # noqa: E402
+from sharebroker.messages import DELETE_RECORDS, PRODUCE, READ_STATE, DeletePartition  # noqa: E402
+from sharebroker.messages import DeleteRecordsRequest, DeleteTopic, ProducePartition, ProduceRequest  # noqa: E402
+from sharebroker.messages import ProduceTopic, ReadPartition, ReadShareGroupStateRequest, ReadTopic  # noqa: E402
 from sharebroker.share_messages import SHARE_ACKNOWLEDGE, SHARE_FETCH, AcknowledgementBatch  # noqa: E402
 from sharebroker.share_messages import AskedPartition, AskedTopic  # noqa: E402
 from sharebroker.share_messages import ShareAcknowledgeRequest, ShareFetchRequest  # noqa: E402
@@ -114,15 +116,33 @@ class Member:
         self.epoch = 0
         self.connection = Connection(("127.0.0.1", port), "ci", PATIENCE * 1000)
 
-    def produce(self, *values, partition=0):
-        """Stores the values as one batch: its code and its first offset."""
+    def produced(self, *values, partition=0):
+        """Stores the values as one batch: what the reply tells of it."""
         batch = BatchBuilder()
         for value in values:
             batch.add(0, None, value, (), MAX_BATCH_BYTES)
         data = [ProduceTopic("orders", [ProducePartition(partition, batch.build())])]
         reply = self.connection.call(PRODUCE, ProduceRequest(None, -1, 30000, data))
-        told = reply.responses[0].partition_responses[0]
+        return reply.responses[0].partition_responses[0]
+
+    def produce(self, *values, partition=0):
+        """Stores the values as one batch: its code and its first offset."""
+        told = self.produced(*values, partition=partition)
         return told.error_code, told.base_offset
+
+    def delete(self, *offsets):
+        """Deletes the records of partition 0 below each of these offsets, one after the other by one request: of each
+        the code and the low watermark."""
+        topics = [DeleteTopic("orders", [DeletePartition(0, offset)]) for offset in offsets]
+        reply = self.connection.call(DELETE_RECORDS, DeleteRecordsRequest(topics, 30000))
+        return [(part.error_code, part.low_watermark) for topic in reply.topics for part in topic.partitions]
+
+    def start(self, group="g"):
+        """The start offset that is stored of a group on partition 0, which has no stored records there."""
+        asked = ReadShareGroupStateRequest(group, [ReadTopic(ORDERS, [ReadPartition(0, 0)])])
+        told = self.connection.call(READ_STATE, asked).results[0].partitions[0]
+        assert (told.error_code, told.state_batches) == (0, []), told
+        return told.start_offset
 
     def fetch(self, most=500, partition=0):
         """Acquires at most so many records: a list of offset, value and delivery count."""
@@ -222,6 +242,29 @@ class ServeCase(unittest.TestCase):
         self.assertEqual(member.acknowledge(2, 2, kind=2), 0)
         self.assertEqual(member.acknowledge(0, 0), 121)
         self.assertEqual(member.fetch(), [(2, b"c", 2)])
+
+    def test_deleted_records_are_gone_for_all_also_after_kill_9(self):
+        server = self.server()
+        member, other = self.member(server, "a"), self.member(server, "b")
+        self.assertEqual(member.produce(b"a", b"b", b"c"), (0, 0))
+        self.assertEqual((len(member.fetch()), other.fetch()), (3, []))
+        self.assertEqual(other.delete(4, -2, 2, 1), [(1, -1), (1, -1), (0, 2), (0, 2)])
+        told = other.produced(b"d")
+        self.assertEqual((told.error_code, told.base_offset, told.log_start_offset), (0, 3, 2))
+        self.assertEqual(other.start(), 2)
+        self.assertEqual(other.acknowledge(0, 1), 0)
+        self.assertEqual(other.acknowledge(0, 2), 121)
+        self.assertEqual(member.acknowledge(0, 2), 0)
+        self.assertEqual(other.start(), 3)
+        self.assertEqual(other.delete(-1), [(0, 4)])
+        self.assertEqual(other.fetch(), [])
+        server.kill()
+        again = self.member(self.server(), "c")
+        self.assertEqual(again.start(), 4)
+        self.assertEqual(again.delete(0), [(0, 4)])
+        told = again.produced(b"e")
+        self.assertEqual((told.error_code, told.base_offset, told.log_start_offset), (0, 4, 4))
+        self.assertEqual(again.fetch(), [(4, b"e", 1)])
 
     def test_two_clients_beside_each_other(self):
         server = self.server()
@@ -376,12 +419,12 @@ class ServeCase(unittest.TestCase):
                 with socket.create_connection(("127.0.0.1", server.port), PATIENCE) as stream:
                     stream.sendall(asked)
                     reply = b""
-                    while len(reply) < 93:
+                    while len(reply) < 100:
                         piece = stream.recv(4096)
                         if not piece:
                             break
                         reply += piece
-                    if reply[:10].hex() != "00000059000000020000":
+                    if reply[:10].hex() != "00000060000000020000":
                         failures.append(reply.hex())
             except OSError as fault:
                 failures.append(str(fault))

@@ -1,14 +1,15 @@
 -- Calls on the shard of a hosted partition, seen by all shards.
-use Rattle.std.proofs.Common.{◌≡◌, ◌⊎◌, inl, inr, refl, sym, ap, ◌∙◌, subst, ℕ, zero, suc, List, [], ◌∷◌, Bool, false, Some}
+use Rattle.std.proofs.Common.{◌≡◌, ◌⊎◌, inl, inr, refl, sym, ap, ◌∙◌, subst, ℕ, ℤ, zero, suc, List, [], ◌∷◌, Bool, false, Some}
 use Rattle.std.specs.List.{AllZip}
 use Rattle.std.specs.declared.option.Option.{Option}
 use Rattle.edge_io.specs.declared.name.DiskPlace.{DiskPlace}
 use Rattle.edge_io.specs.declared.name.DiskPlace.TheVariants.{Log, StateA, StateB}
 use Rattle.share_part.specs.Hosting.{PartConfParts}
+use Rattle.share_model.specs.declared.delete.DeleteAnswer.{DeleteAnswer}
 use Rattle.share_model.specs.declared.visit.Visit.{Visit}
 use Rattle.call_fold.specs.declared.part.Part.{Part}
-use Rattle.call_fold.specs.declared.part.Part.TheVariants.{Produce, Visit as PartVisit, Look, Heartbeat}
-use Rattle.call_fold.specs.declared.part.PartAnswer.TheVariants.{Produce as AnswerProduce, Visit as AnswerVisit, Look as AnswerLook, Heartbeat as AnswerHeartbeat}
+use Rattle.call_fold.specs.declared.part.Part.TheVariants.{Produce, Delete as PartDelete, Visit as PartVisit, Look, Heartbeat}
+use Rattle.call_fold.specs.declared.part.PartAnswer.TheVariants.{Produce as AnswerProduce, Delete as AnswerDelete, Visit as AnswerVisit, Look as AnswerLook, Heartbeat as AnswerHeartbeat}
 use Rattle.call_fold.specs.declared.part.Looked.{Looked}
 use Rattle.call_fold.specs.declared.part.Produced.{Produced}
 use Rattle.msgs_group.specs.declared.heartbeat_request.HeartbeatRequest.{HeartbeatRequest}
@@ -19,7 +20,7 @@ use Rattle.broker_model.specs.Hosted.{ChangesAt, HoldsAt, Hosted, first_of, log_
 use Rattle.broker_model.specs.Shards.{Counts, Ends, HostedPart, PartCall, Shards, ShardCall, StepsHosted, StepsShards, fault_of_expiry, part_calls}
 use Rattle.broker_model.specs.Shards.ShardCall.{CallPart, CallMembers}
 use Rattle.broker_model.specs.Shards.MembersCall.{Beats}
-use Rattle.broker_model.specs.Shards.PartCall.{Visits, Produces, Looks, Expires}
+use Rattle.broker_model.specs.Shards.PartCall.{Visits, Produces, Looks, Expires, Deletes}
 use Rattle.broker_model.specs.Disks.{Facts, OnCalled}
 use Rattle.broker_model.proofs.Lists.{change_of, changes_so}
 use Rattle.broker_core.specs.declared.slot.PartState.{PartState}
@@ -430,6 +431,17 @@ module _ {D : Type 0} (seen : D → DiskView) where
         CallPart shard e.0 (Produces batch produced),
         e.1,
         ap (λ (p : Part). Some (record { part = p; answer = AnswerProduce produced })) (sym is),
+        e.2,
+      )
+
+  pub delete_halts : (counts : Counts) (ends : Ends) (now shard : ℕ) (part : Part) (to : ℤ) → part ≡ PartDelete shard to → (did : PartCall)
+      (answer : DeleteAnswer) → did ≡ Deletes to answer → (a : Shards) (call : Option ShardCall) (b : Shards) → DidPart counts ends now shard did a call b
+      → Did counts ends now part (AnswerDelete answer) a call b
+  delete_halts counts ends now shard part to is did answer did_is a call b d =
+      let e = subst (λ (q : PartCall). DidPart counts ends now shard q a call b) did_is d in (
+        CallPart shard e.0 (Deletes to answer),
+        e.1,
+        ap (λ (p : Part). Some (record { part = p; answer = AnswerDelete answer })) (sym is),
         e.2,
       )
 

@@ -13,6 +13,8 @@ use Rattle.foreign_coord.specs.Shards.{ForeignShardState}
 use Rattle.part_log.specs.Logs.{and_pending}
 use Rattle.part_log.specs.Shards.{log_at}
 use Rattle.part_log.specs.Starts.{Log as PartitionLog}
+use Rattle.share_coord.specs.Raising.{raised_states}
+use Rattle.share_coord.proofs.Recovered.{states_twice}
 use Rattle.share_part.specs.Hosting.{ArePartText, PartConfParts}
 use Rattle.share_part.specs.Leaving.{IsLeftOf, IsDoneOr}
 use Rattle.share_part.specs.Shards.{PartShardState, shard_with}
@@ -189,13 +191,13 @@ module _ {D : Type 0} (seen : D → DiskView) where
       let p = z.0 in
       let r = p.reopens e.shard (was_in x p.was e p.old_is k.0) in
       record {
-        after = record { hosted = hosted_slot x; shard = shard_with r.is r.states } ∷ more.after;
+        after = record { hosted = hosted_slot x; shard = shard_with r.is (raised_states r.is.start r.states) } ∷ more.after;
         zip = (
           record {
             hosted = sym (hosted_y choice x y p);
             state =
-                subst (λ (c : PartConfParts). IsPartState seen c y.state (shard_with r.is r.states)) (sym p.conf)
-                (subst (λ (s : PartState D). IsPartState seen x.conf s (shard_with r.is r.states)) (sym p.new_is) r.carried);
+                subst (λ (c : PartConfParts). IsPartState seen c y.state (shard_with r.is (raised_states r.is.start r.states))) (sym p.conf)
+                (subst (λ (s : PartState D). IsPartState seen x.conf s (shard_with r.is (raised_states r.is.start r.states))) (sym p.new_is) r.carried);
           },
           more.zip,
         );
@@ -205,6 +207,7 @@ module _ {D : Type 0} (seen : D → DiskView) where
             log = r.is;
             states = r.states;
             log_is = r.log_is;
+            later = r.later;
             states_are = r.states_are;
             shard = refl;
           },
@@ -214,14 +217,14 @@ module _ {D : Type 0} (seen : D → DiskView) where
           record {
             hosted = sym (hosted_y choice x y p);
             is = r.is;
-            states = r.states;
+            states = raised_states r.is.start r.states;
             shard = refl;
             text =
-                subst (λ (l : List ℕ). ArePartText x.conf l (last_content (slot_facts y StateA).losses) (last_content (slot_facts y StateB).losses) r.is r.states)
+                subst (λ (l : List ℕ). ArePartText x.conf l (last_content (slot_facts y StateA).losses) (last_content (slot_facts y StateB).losses) r.is (raised_states r.is.start r.states))
                 (sym (last_of choice x y Log p r.l r.log_lost))
-                (subst (λ (a : List ℕ). ArePartText x.conf r.l a (last_content (slot_facts y StateB).losses) r.is r.states)
+                (subst (λ (a : List ℕ). ArePartText x.conf r.l a (last_content (slot_facts y StateB).losses) r.is (raised_states r.is.start r.states))
                 (sym (last_of choice x y StateA p r.a r.first_lost))
-                (subst (λ (b : List ℕ). ArePartText x.conf r.l r.a b r.is r.states) (sym (last_of choice x y StateB p r.b r.second_lost)) r.stands));
+                (subst (λ (b : List ℕ). ArePartText x.conf r.l r.a b r.is (raised_states r.is.start r.states)) (sym (last_of choice x y StateB p r.b r.second_lost)) r.stands));
           },
           more.stands,
         );
@@ -387,16 +390,18 @@ module _ {D : Type 0} (seen : D → DiskView) where
 
   -- contents that stand for the shard that landed stand for the old one, with or without its pending writes
   landed_left : (conf : PartConfParts) (old : PartShardState) (its : PartitionLog) (states : ShareStates) (l a b : List ℕ)
-      → IsDoneOr (log_at old.log) (and_pending (log_at old.log) old.log.pending) its → IsDoneOr old.states old.pending states
-      → IsLeftOf conf (shard_with its states) l a b → IsLeftOf conf old l a b
-  landed_left conf old its states l a b log_is states_are t = record {
+      → IsDoneOr (log_at old.log) (and_pending (log_at old.log) old.log.pending) its → old.log.start ≤ its.start → IsDoneOr old.states old.pending states
+      → IsLeftOf conf (shard_with its (raised_states its.start states)) l a b → IsLeftOf conf old l a b
+  landed_left conf old its states l a b log_is later states_are t = record {
     is = its;
     states = states;
     log_is = log_is;
+    later = later;
     states_are = states_are;
     text =
-        subst (λ (x : PartitionLog). ArePartText conf l a b x states) (done its t.is t.log_is)
-        (subst (λ (ss : ShareStates). ArePartText conf l a b t.is ss) (done states t.states t.states_are) t.text);
+        subst (λ (ss : ShareStates). ArePartText conf l a b its ss) (states_twice its.start its.start states (let n = its.start in omega arith))
+        (subst (λ (ss : ShareStates). ArePartText conf l a b its (raised_states its.start ss)) (done (raised_states its.start states) t.states t.states_are)
+        (subst (λ (x : PartitionLog). ArePartText conf l a b x (raised_states x.start t.states)) (done its t.is t.log_is) t.text));
   }
     where
       done : {S : Type 0} (x y : S) → IsDoneOr x None y → y ≡ x
@@ -417,8 +422,8 @@ module _ {D : Type 0} (seen : D → DiskView) where
         second_is = λ i. (second_of (sym is i), part_disk (p.new_is i) StateB);
         alone = record {
           stand = λ l a b on_log on_first on_second. subst (λ (h : Hosted). IsLeftOf h.conf e.shard l a b) (sym k.hosted)
-              (landed_left x.conf e.shard r.is r.states l a b r.log_is r.states_are
-              (part_left seen x.conf p.is (shard_with r.is r.states) r.carried l a b on_log on_first on_second));
+              (landed_left x.conf e.shard r.is r.states l a b r.log_is r.later r.states_are
+              (part_left seen x.conf p.is (shard_with r.is (raised_states r.is.start r.states)) r.carried l a b on_log on_first on_second));
           log_told = r.carried.log.told;
           first_told = r.carried.first.told;
           second_told = r.carried.second.told;

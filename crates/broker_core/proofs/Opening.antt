@@ -13,6 +13,7 @@ use Rattle.share_model.specs.Pending.{WithPending}
 use Rattle.share_coord.specs.Parts.{StoreParts}
 use Rattle.share_coord.specs.Stored.{Entries, AreStored}
 use Rattle.share_coord.specs.States.{AreStates, states_of}
+use Rattle.share_coord.proofs.Unraised.{stand_exact}
 use Rattle.foreign_coord.specs.Shards.{ForeignShardState, Carries}
 use Rattle.broker_model.specs.Machine.{StandForStates, Lands}
 use Rattle.broker_model.specs.Disks.{facts_of}
@@ -102,7 +103,8 @@ module _ {D : Type 0} (seen : D → DiskView) where
       subst (λ (p : Option ShareStates). WithPending (StandForStates a b) shard.states p) (sym k.pending_is)
       (subst (λ (s : ShareStates). WithPending (StandForStates a b) s (option_map states_of k.pending)) (sym k.states)
       (pending_map (AreStates a b) (StandForStates a b) (λ s h. (h.entries, h.stored, h.is))
-      (states_of store.entries) (option_map states_of k.pending) (k.holds.images a b on_first on_second)))
+      (states_of store.entries) (option_map states_of k.pending)
+      (stand_exact a b store.entries k.pending k.unraised (k.holds.images a b on_first on_second))))
 
   abbrev Runs : D → D → Type 0
   Runs old new = RunsOn seen old new

@@ -1,5 +1,5 @@
 -- Calls on the shard of a hosted partition.
-use Rattle.std.proofs.Common.{◌≡◌, ◌≢◌, ◌≤◌, arith, inl, inr, refl, sym, ap, ◌∙◌, subst, ℕ, List, [], ◌∷◌, Bool, true, false, is_some, Result, Ok, Err}
+use Rattle.std.proofs.Common.{◌≡◌, ◌≢◌, ◌≤◌, arith, inl, inr, refl, sym, ap, ◌∙◌, subst, ℕ, ℤ, List, [], ◌∷◌, Bool, true, false, is_some, Result, Ok, Err}
 use Rattle.std.specs.List.{AllByRecursion}
 use Rattle.std.specs.Prelude.{All}
 use Rattle.std.proofs.lemmas.List.Elements.{All-from_recursion}
@@ -9,6 +9,9 @@ use Rattle.flex_fields.specs.declared.fault.NoMemory.{NoMemory as Want}
 use Rattle.gate_journal.specs.declared.writer.Writer.{Writer}
 use Rattle.edge_io.specs.Disk.{IsTold}
 use Rattle.share_model.specs.ForeignRules.{share_state_at}
+use Rattle.share_model.specs.declared.delete.DeleteAnswer.{DeleteAnswer}
+use Rattle.share_model.specs.declared.delete.DeleteAnswer.TheVariants.{Done, OutOfRange, Store as Unraised}
+use Rattle.share_model.specs.declared.delete.Placed.{Placed}
 use Rattle.share_model.specs.declared.fault.LogFault.{LogFault}
 use Rattle.share_model.specs.declared.fault.LogFault.TheVariants.{Batch as BadBatch, Behind, Store as Unstored, NoMemory}
 use Rattle.share_model.specs.declared.fault.StoreFault.TheVariants.{Device}
@@ -20,34 +23,43 @@ use Rattle.share_model.specs.declared.visit.Visit.{Visit}
 use Rattle.share_model.specs.declared.visit.VisitAnswer.{VisitAnswer}
 use Rattle.part_log.specs.Logs.{LogParts}
 use Rattle.part_log.specs.Shards.{CarriesLog, log_at}
+use Rattle.coord_checkpoint.specs.Stores.{StoreParts as JournalParts}
 use Rattle.share_coord.specs.Parts.{StoreParts}
+use Rattle.share_coord.specs.Unwritten.{AreLevel}
 use Rattle.share_coord.specs.Holding.{Holds}
 use Rattle.share_coord.specs.States.{states_of}
+use Rattle.share_part.specs.Deleting.{Deleted, DeletesOnce, IsTellableDelete}
 use Rattle.share_part.specs.Hosting.{PartConfParts, AreHosted, key_of}
 use Rattle.share_part.specs.Failures.{RunOnBoth}
 use Rattle.share_part.specs.Following.{IsFetch}
 use Rattle.share_part.specs.Once.{Expired, ExpiresOnce, Produced as ProducedSo, ReadsBatches, Visited, VisitsOnce}
 use Rattle.share_part.specs.Shards.{Carries, IsPendingHosted, IsUntouched, PartShardState}
 use Rattle.share_part.specs.Walks.{IsSmallGrant}
-use Rattle.call_fold.specs.Parts.{IsTellableGrant}
+use Rattle.call_fold.specs.Parts.{HasTellableStart, IsTellableGrant}
 use Rattle.call_fold.specs.declared.part.Looked.{Looked}
 use Rattle.call_fold.specs.declared.part.Produced.{Produced}
 use Rattle.call_fold.specs.declared.part.Produced.TheVariants.{Base, Batch, Store}
 use Rattle.broker_model.specs.Shards.{PartCall, look_at, reads_log, result_of}
-use Rattle.broker_model.specs.Shards.PartCall.{Visits, Produces, Looks, Expires}
+use Rattle.broker_model.specs.Shards.PartCall.{Visits, Produces, Looks, Expires, Deletes}
 use Rattle.broker_model.specs.Acting.{EndsGoOn, StepsOn}
 use Rattle.broker_model.specs.Disks.{IsUsed, facts_of}
-use Rattle.broker_model.proofs.Quiets.{steps_batch, steps_still, steps_visit}
+use Rattle.broker_model.proofs.Quiets.{steps_batch, steps_delete, steps_still, steps_visit}
 use Rattle.broker_core.specs.Carried.{GoesOn, HaltsPart, IsPartCarried, LeadsPart, OpenPart, PartGoesOn, Uses, holding}
 use Rattle.edge_io.specs.Views.{DiskView}
 
 -- ---- what is told
 
 -- an answer isn't want of memory
-not_memory : (produced : Produced) (added : Result ℕ LogFault) → result_of produced ≡ added → added ≢ Err NoMemory
-not_memory (Base base) added e f = let bad : ◌≡◌ {A = Result ℕ LogFault} (Ok base) (Err NoMemory) = e ∙ f in cc
-not_memory (Batch fault) added e f = let bad : ◌≡◌ {A = Result ℕ LogFault} (Err (BadBatch fault)) (Err NoMemory) = e ∙ f in cc
-not_memory (Store fault) added e f = let bad : ◌≡◌ {A = Result ℕ LogFault} (Err (Unstored fault)) (Err NoMemory) = e ∙ f in cc
+not_memory : (produced : Produced) (added : Result Placed LogFault) → result_of produced ≡ added → added ≢ Err NoMemory
+not_memory (Base base) added e f = let bad : ◌≡◌ {A = Result Placed LogFault} (Ok base) (Err NoMemory) = e ∙ f in cc
+not_memory (Batch fault) added e f = let bad : ◌≡◌ {A = Result Placed LogFault} (Err (BadBatch fault)) (Err NoMemory) = e ∙ f in cc
+not_memory (Store fault) added e f = let bad : ◌≡◌ {A = Result Placed LogFault} (Err (Unstored fault)) (Err NoMemory) = e ∙ f in cc
+
+-- where a log starts is an offset that a reply can say
+pub start_told : (answer : DeleteAnswer) → IsTellableDelete answer → HasTellableStart answer
+start_told (Done start) below = omega (arith, below)
+start_told (OutOfRange end) below = tt
+start_told (Unraised fault) below = tt
 
 -- grants that were taken can be told
 small_told : (grants : List Grant) → AllByRecursion IsSmallGrant grants → AllByRecursion IsTellableGrant grants
@@ -244,7 +256,8 @@ module _ {D : Type 0} (seen : D → DiskView) where
     clock = k.clock ∙ sym same.clock;
     hosted = subst (λ (p : PartConfParts). AreHosted p (log_at s.log) s.states) (sym same.conf) k.hosted;
     pending_hosted = subst (λ (p : PartConfParts). IsPendingHosted p (log_at s.log) s.pending) (sym same.conf) k.pending_hosted;
-    unmarked = k.unmarked;
+    level = subst (λ (t : StoreParts D). AreLevel s.log.start t.entries) (sym same.states) k.level;
+    pending_level = k.pending_level;
   }
 
   pub visit_refused : (old new : OpenPart D) (now : ℕ) (visit : Visit) → OnStates old new → IsUntouched holding old new
@@ -275,36 +288,36 @@ module _ {D : Type 0} (seen : D → DiskView) where
   expire_refused old new now o same s k = states_none old new now IsExpiry o s k
       (subst (λ (p : OpenPart D). Carries seen holding p s) (sym same) k.carries)
 
-  -- ---- batches
+  -- ---- batches and deletes
 
   pub record OnLog (old new : OpenPart D) : Type 0 where
     pub runs : Runs old.log.journal.disk new.log.journal.disk
     pub ends : (t : PartShardState) → Carries seen holding old t → old.log.journal.end ≤ new.log.journal.end
-    pub states : new.states ≡ old.states
+    pub states : new.states.journal ≡ old.states.journal
     pub conf : new.conf ≡ old.conf
 
   pub log_goes : (old new : OpenPart D) → OnLog old new → PartGoesOn seen old new
   log_goes old new o = record {
     log = record { later = o.runs.later; told = o.runs.told };
-    first = subst (λ (t : StoreParts D). GoesOn seen old.states.journal.first.disk t.journal.first.disk) (sym o.states) (least_on old.states.journal.first.disk);
-    second = subst (λ (t : StoreParts D). GoesOn seen old.states.journal.second.disk t.journal.second.disk) (sym o.states) (least_on old.states.journal.second.disk);
+    first = subst (λ (j : JournalParts D). GoesOn seen old.states.journal.first.disk j.first.disk) (sym o.states) (least_on old.states.journal.first.disk);
+    second = subst (λ (j : JournalParts D). GoesOn seen old.states.journal.second.disk j.second.disk) (sym o.states) (least_on old.states.journal.second.disk);
   }
 
   log_end : (old new : OpenPart D) → OnLog old new → (s : PartShardState) → Carries seen holding old s → EndsGoOn old new
   log_end old new o s k = record { log = o.ends s k }
 
   first_told : (old new : OpenPart D) → OnLog old new → IsTold (seen old.states.journal.first.disk).content → IsTold (seen new.states.journal.first.disk).content
-  first_told old new o told = ap (λ (t : StoreParts D). is_some (seen t.journal.first.disk).content) o.states ∙ told
+  first_told old new o told = ap (λ (j : JournalParts D). is_some (seen j.first.disk).content) o.states ∙ told
 
   second_told : (old new : OpenPart D) → OnLog old new → IsTold (seen old.states.journal.second.disk).content → IsTold (seen new.states.journal.second.disk).content
-  second_told old new o told = ap (λ (t : StoreParts D). is_some (seen t.journal.second.disk).content) o.states ∙ told
+  second_told old new o told = ap (λ (j : JournalParts D). is_some (seen j.second.disk).content) o.states ∙ told
 
   -- where no device fault is told, none of its calls failed
-  abbrev Quiet : OpenPart D → OpenPart D → Result ℕ LogFault → Type 0
+  abbrev Quiet : OpenPart D → OpenPart D → Result Placed LogFault → Type 0
   Quiet old new added = added ≢ Err (Unstored Device) → IsTold (seen old.log.journal.disk).content
       → (seen new.log.journal.disk).faults ≡ (seen old.log.journal.disk).faults
 
-  abbrev Adds : OpenPart D → OpenPart D → (now : ℕ) → List ℕ → Result ℕ LogFault → Type 0
+  abbrev Adds : OpenPart D → OpenPart D → (now : ℕ) → List ℕ → Result Placed LogFault → Type 0
   Adds old new now batch added = added ≢ Err NoMemory → ProducedSo seen holding now batch old new added
 
   batch_steps : (old new : OpenPart D) (now : ℕ) (batch : List ℕ) (produced : Produced) → Quiet old new (result_of produced)
@@ -315,12 +328,12 @@ module _ {D : Type 0} (seen : D → DiskView) where
   abbrev pub IsBatch : List ℕ → PartCall → Type 0
   IsBatch batch did = (produced : Produced) × (did ≡ Produces batch produced)
 
-  pub produce_leads : (old new : OpenPart D) (now : ℕ) (batch : List ℕ) (added : Result ℕ LogFault) (produced : Produced) → result_of produced ≡ added
+  pub produce_leads : (old new : OpenPart D) (now : ℕ) (batch : List ℕ) (added : Result Placed LogFault) (produced : Produced) → result_of produced ≡ added
       → OnLog old new → Quiet old new added → Adds old new now batch added → Fed new → (s : PartShardState) → Carried old.conf old s
       → LeadsPart seen old.conf now (Produces batch produced) old s new
   produce_leads old new now batch added produced is o quiet steps fed s k =
       let r = batch_steps old new now batch produced (subst (Quiet old new) (sym is) quiet)
-      (subst (λ (x : Result ℕ LogFault). ProducedSo seen holding now batch old new x) (sym is) (steps (not_memory produced added is))) s k.carries in
+      (subst (λ (x : Result Placed LogFault). ProducedSo seen holding now batch old new x) (sym is) (steps (not_memory produced added is))) s k.carries in
       record {
         after = r.0;
         carried = record {
@@ -356,11 +369,11 @@ module _ {D : Type 0} (seen : D → DiskView) where
         second_told = second_told old new o k.second.told;
       }
 
-  pub produce_halts : (old new : OpenPart D) (now : ℕ) (batch : List ℕ) (added : Result ℕ LogFault) → ((end : ℕ) → added ≢ Err (Behind end))
+  pub produce_halts : (old new : OpenPart D) (now : ℕ) (batch : List ℕ) (added : Result Placed LogFault) → ((end : ℕ) → added ≢ Err (Behind end))
       → OnLog old new → Quiet old new added → Adds old new now batch added → (added ≡ Err NoMemory → new ≡ old) → (s : PartShardState) → Carried old.conf old s
       → HaltsBatch old new now batch s
-  produce_halts old new now batch (Ok base) behind o quiet steps same s k =
-      produced_whole old new now batch (Base base) o quiet (steps (λ e. let never : ⊥ = cc in never)) s k
+  produce_halts old new now batch (Ok at) behind o quiet steps same s k =
+      produced_whole old new now batch (Base at) o quiet (steps (λ e. let never : ⊥ = cc in never)) s k
   produce_halts old new now batch (Err (BadBatch f)) behind o quiet steps same s k =
       produced_whole old new now batch (Batch f) o quiet (steps (λ e. let never : ⊥ = cc in never)) s k
   produce_halts old new now batch (Err (Unstored f)) behind o quiet steps same s k =
@@ -376,6 +389,61 @@ module _ {D : Type 0} (seen : D → DiskView) where
     first_told = first_told old new o k.first.told;
     second_told = second_told old new o k.second.told;
   }
+
+  -- where no device fault is told of a delete, none of its calls failed
+  abbrev QuietDelete : OpenPart D → OpenPart D → DeleteAnswer → Type 0
+  QuietDelete old new answer = answer ≢ Unraised Device → IsTold (seen old.log.journal.disk).content
+      → (seen new.log.journal.disk).faults ≡ (seen old.log.journal.disk).faults
+
+  delete_steps : (old new : OpenPart D) (now : ℕ) (to : ℤ) (answer : DeleteAnswer) → QuietDelete old new answer
+      → Deleted seen holding now to old new answer → Steps old new now (Deletes to answer)
+  delete_steps old new now to answer quiet deleted t k =
+      let r = deleted t k in (r.0, r.1, steps_delete seen old new old.conf now t r.0 to answer quiet r.2)
+
+  pub delete_on : (old new : OpenPart D) (now : ℕ) (to : ℤ) (answer : DeleteAnswer) → DeletesOnce seen holding now to old new answer
+      → Runs old.log.journal.disk new.log.journal.disk → OnLog old new
+  delete_on old new now to answer once runs = record { runs = runs; ends = λ t k. once.ends; states = once.states; conf = once.conf }
+
+  pub delete_leads : (old new : OpenPart D) (now : ℕ) (to : ℤ) (answer : DeleteAnswer) → OnLog old new → QuietDelete old new answer
+      → Deleted seen holding now to old new answer → Fed new → (s : PartShardState) → Carried old.conf old s
+      → LeadsPart seen old.conf now (Deletes to answer) old s new
+  delete_leads old new now to answer o quiet steps fed s k =
+      let r = delete_steps old new now to answer quiet steps s k.carries in
+      record {
+        after = r.0;
+        carried = record {
+          conf_is = o.conf;
+          carries = r.1;
+          log = record { told = o.runs.told ∙ k.log.told; fed = fed.0 };
+          first = record { told = first_told old new o k.first.told; fed = fed.1 };
+          second = record { told = second_told old new o k.second.told; fed = fed.2 };
+        };
+        step = r.2;
+        ends = log_end old new o s k.carries;
+        used = record {
+          used = record { losses = o.runs.same_losses; arms = o.runs.same_arms; spends = o.runs.spends k.log.told fed.0 };
+          states = o.states;
+        };
+      }
+
+  abbrev pub IsDelete : ℤ → PartCall → Type 0
+  IsDelete to did = (answer : DeleteAnswer) × (did ≡ Deletes to answer)
+
+  pub delete_halts : (old new : OpenPart D) (now : ℕ) (to : ℤ) (answer : DeleteAnswer) → OnLog old new → QuietDelete old new answer
+      → Deleted seen holding now to old new answer → (s : PartShardState) → Carried old.conf old s
+      → HaltsPart seen old.conf now (IsDelete to) old s new
+  delete_halts old new now to answer o quiet steps s k =
+      let r = delete_steps old new now to answer quiet steps s k.carries in
+      record {
+        after = r.0;
+        conf_is = o.conf;
+        carries = r.1;
+        does = inr (Deletes to answer, (answer, refl), r.2);
+        ends = log_end old new o s k.carries;
+        log_told = o.runs.told ∙ k.log.told;
+        first_told = first_told old new o k.first.told;
+        second_told = second_told old new o k.second.told;
+      }
 
   -- ---- looks
 

@@ -6,14 +6,14 @@ use Rattle.edge_io.specs.Disk.{IsTold, Within}
 use Rattle.gate_journal.specs.Frames.{StandsAs, StandsFor}
 use Rattle.gate_journal.proofs.Once.{once}
 use Rattle.share_model.specs.ForeignRules.{ShareStates}
-use Rattle.part_log.specs.Logs.{IsLogText, and_pending, frames_of, log_in}
-use Rattle.part_log.specs.Shards.{log_at}
+use Rattle.part_log.specs.Logs.{IsLogText, frames_of, log_in}
 use Rattle.part_log.specs.Starts.{Log}
+use Rattle.share_coord.specs.Raising.{raised_states}
 use Rattle.share_coord.specs.States.{AreStates, states_of}
 use Rattle.share_part.specs.Hosting.{ArePartText, PartConfParts}
-use Rattle.share_part.specs.Leaving.{IsLeftOf, IsDoneOr}
+use Rattle.share_part.specs.Leaving.{IsLeftOf}
 use Rattle.share_part.specs.Opening.{IsOpened}
-use Rattle.share_part.specs.Shards.{Carries, PartShardState}
+use Rattle.share_part.specs.Shards.{Carries, PartShardState, shard_with}
 use Rattle.share_part.proofs.Leavings.{left_of}
 use Rattle.broker_core.specs.declared.fault.CoreOpen.{CoreOpen}
 use Rattle.broker_core.specs.declared.fault.CoreOpen.TheVariants as fault
@@ -44,7 +44,9 @@ pub same_part : (conf : PartConfParts) (l x a y b z : List ℕ) (its : Log) (sta
     → ArePartText conf l a b its states → ArePartText conf x y z its states
 same_part conf l x a y b z its states on_log on_first on_second t = record {
   log_is = same_text l x its on_log t.log_is;
-  states_are = same_states a b y z states on_first on_second t.states_are;
+  written = t.written;
+  states_are = same_states a b y z t.written on_first on_second t.states_are;
+  raised_is = t.raised_is;
   hosted = t.hosted;
 }
 
@@ -115,7 +117,7 @@ module _ {D : Type 0} (seen : D → DiskView) where
       → IsRestartedPart seen choice conf part s new
   restarted_part choice conf part s log first second l a b new k p q r o =
       let t = part_left conf part s k l a b p.was q.was r.was in
-      let e = o.only t.is t.states t.text in
+      let e = o.only t.is (raised_states t.is.start t.states) t.text in
       let on_log = restarted_disk seen choice part.log.journal.disk log new.log.journal.disk l p o.on_log in
       let on_first = restarted_disk seen choice part.states.journal.first.disk first new.states.journal.first.disk a q o.on_first in
       let on_second = restarted_disk seen choice part.states.journal.second.disk second new.states.journal.second.disk b r o.on_second in
@@ -123,12 +125,14 @@ module _ {D : Type 0} (seen : D → DiskView) where
         l = l;
         a = a;
         b = b;
-        is = o.is;
-        states = o.states;
-        carried = o.carried;
-        log_is = subst (λ (l : Log). IsDoneOr (log_at s.log) (and_pending (log_at s.log) s.log.pending) l) (sym e.0) t.log_is;
-        states_are = subst (λ (st : ShareStates). IsDoneOr s.states s.pending st) (sym e.1) t.states_are;
-        stands = o.stands;
+        is = t.is;
+        states = t.states;
+        carried = subst (λ (l : Log). Carried conf new (shard_with l (raised_states t.is.start t.states))) e.0
+            (subst (λ (st : ShareStates). Carried conf new (shard_with o.is st)) e.1 o.carried);
+        log_is = t.log_is;
+        later = t.later;
+        states_are = t.states_are;
+        stands = t.text;
         were = (p.was, q.was, r.was);
         log_lost = o.on_log.losses ∙ p.lost;
         first_lost = o.on_first.losses ∙ q.lost;
@@ -191,8 +195,9 @@ module _ {D : Type 0} (seen : D → DiskView) where
         is = left.is;
         states = left.states;
         log_is = left.log_is;
+        later = left.later;
         states_are = left.states_are;
-        text = same_part conf l x a y b z left.is left.states (alike choice part.log.journal.disk log l x p (i.on_log x on_log))
+        text = same_part conf l x a y b z left.is (raised_states left.is.start left.states) (alike choice part.log.journal.disk log l x p (i.on_log x on_log))
             (alike choice part.states.journal.first.disk first a y q (i.on_first y on_first))
             (alike choice part.states.journal.second.disk second b z r (i.on_second z on_second)) left.text;
       };
@@ -207,7 +212,7 @@ module _ {D : Type 0} (seen : D → DiskView) where
         → (IsTold (seen log).content → IsTold (seen first).content → IsTold (seen second).content → (seen log).armed ≡ Nothing → (seen first).armed ≡ Nothing → (seen second).armed ≡ Nothing
         → e ≢ fault.Device) → e ≢ fault.Bay → e ≡ fault.NoMemory
     only_memory e recovers sound no_bay =
-        one_fault_left e (recovers l a b left.is left.states p.is q.is r.is left.text)
+        one_fault_left e (recovers l a b left.is (raised_states left.is.start left.states) p.is q.is r.is left.text)
         (sound (told_of (seen log).content l p.is) (told_of (seen first).content a q.is) (told_of (seen second).content b r.is) p.disarmed q.disarmed r.disarmed) no_bay
 
     pub part_stays_shut : {T : Type 0} (result : Result T ((D × D × D) × CoreOpen))

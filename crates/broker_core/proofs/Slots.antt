@@ -9,14 +9,15 @@ use Rattle.edge_io.specs.Causes.{Rose}
 use Rattle.edge_io.specs.Disk.{IsTold}
 use Rattle.share_model.specs.declared.visit.Then.{Then}
 use Rattle.part_log.specs.Logs.{LogParts}
-use Rattle.share_coord.specs.Parts.{StoreParts}
+use Rattle.coord_checkpoint.specs.Stores.{StoreParts as JournalParts}
+use Rattle.share_part.specs.Deleting.{StepsDelete}
 use Rattle.share_part.specs.Expiring.{StepsExpire}
 use Rattle.share_part.specs.Failures.{failures_of}
 use Rattle.share_part.specs.Shards.{PartShardState, StepsProduce}
 use Rattle.share_part.specs.Visits.{StepsVisit}
 use Rattle.broker_model.specs.Hosted.{Hosted, HoldsAt, first_of, has_disk, log_of, log_store, part_disks, same_name, second_of, state_store}
 use Rattle.broker_model.specs.Shards.{Counts, Ends, PartCall, StepsPart, faults_before, faults_behind, part_calls, reads_log, result_of, rose_at}
-use Rattle.broker_model.specs.Shards.PartCall.{Visits, Produces, Looks, Expires}
+use Rattle.broker_model.specs.Shards.PartCall.{Visits, Produces, Looks, Expires, Deletes}
 use Rattle.broker_model.specs.Disks.{Facts, IsUsed, OnCalled, facts_of}
 use Rattle.broker_core.specs.declared.slot.PartSlot.{PartSlot}
 use Rattle.broker_core.specs.declared.slot.PartState.{PartState}
@@ -174,8 +175,8 @@ module _ {D : Type 0} (seen : D → DiskView) where
       → OnCalled (same_name name (log_of h)) (three h (open_facts was Log) (open_facts was StateA) (open_facts was StateB) o name)
       (three h (open_facts is Log) (open_facts is StateA) (open_facts is StateB) o name)
   uses_log h was is u name o =
-      subst (λ (s : StoreParts D). OnCalled (same_name name (log_of h)) (three h (open_facts was Log) (open_facts was StateA) (open_facts was StateB) o name)
-      (three h (open_facts is Log) (facts s.journal.first.disk) (facts s.journal.second.disk) o name)) (sym u.states)
+      subst (λ (j : JournalParts D). OnCalled (same_name name (log_of h)) (three h (open_facts was Log) (open_facts was StateA) (open_facts was StateB) o name)
+      (three h (open_facts is Log) (facts j.first.disk) (facts j.second.disk) o name)) (sym u.states)
       (on_log h (open_facts was Log) (open_facts is Log) (open_facts was StateA) (open_facts was StateB) o name u.used)
 
   uses_visit : (h : Hosted) (asked : Then) (was is : OpenPart D) → UsesVisit seen asked was is → (name : List ℕ) (o : Facts)
@@ -195,6 +196,7 @@ module _ {D : Type 0} (seen : D → DiskView) where
   open_used h was is (Looks group looked) u name o =
       ap (λ (p : OpenPart D). three h (open_facts p Log) (open_facts p StateA) (open_facts p StateB) o name) u
   open_used h was is (Expires answer) u name o = uses_states h was is u name o
+  open_used h was is (Deletes to answer) u name o = uses_log h was is u name o
 
   ends_states : (h : Hosted) (was is : OpenPart D) → UsesStates seen was is → (name : List ℕ) (o : ℕ) → has_disk (state_store h) name ≡ false
       → three h (open_end is Log) (open_end is StateA) (open_end is StateB) o name ≡ three h (open_end was Log) (open_end was StateA) (open_end was StateB) o name
@@ -211,17 +213,22 @@ module _ {D : Type 0} (seen : D → DiskView) where
       ∙ past_first h (open_end was Log) (open_end was StateA) (open_end is StateA) 0 o name
       (not_left (same_name name (first_of h)) (same_name name (second_of h)) away)
 
+  ends_log : (h : Hosted) (was is : OpenPart D) → UsesLog seen was is → (name : List ℕ) (o : ℕ) → same_name name (log_of h) ≡ false
+      → three h (open_end is Log) (open_end is StateA) (open_end is StateB) o name ≡ three h (open_end was Log) (open_end was StateA) (open_end was StateB) o name
+  ends_log h was is u name o away =
+      ap (λ (j : JournalParts D). three h (open_end is Log) j.end 0 o name) u.states
+      ∙ past_log h (open_end was Log) (open_end is Log) (open_end was StateA) 0 o name away
+
   open_ends : (h : Hosted) (was is : OpenPart D) (did : PartCall) → Uses seen was is did → (name : List ℕ) (o : ℕ)
       → part_calls h did name ≡ false
       → three h (open_end is Log) (open_end is StateA) (open_end is StateB) o name ≡ three h (open_end was Log) (open_end was StateA) (open_end was StateB) o name
   open_ends h was is (Visits visit answer unread) u name o away = ends_visit h visit.then was is u name o
       (not_right (reads_log visit.then && has_disk (log_store h) name) (has_disk (state_store h) name) away)
-  open_ends h was is (Produces batch produced) u name o away =
-      ap (λ (s : StoreParts D). three h (open_end is Log) s.journal.end 0 o name) u.states
-      ∙ past_log h (open_end was Log) (open_end is Log) (open_end was StateA) 0 o name away
+  open_ends h was is (Produces batch produced) u name o away = ends_log h was is u name o away
   open_ends h was is (Looks group looked) u name o away =
       ap (λ (p : OpenPart D). three h (open_end p Log) (open_end p StateA) (open_end p StateB) o name) u
   open_ends h was is (Expires answer) u name o away = ends_states h was is u name o away
+  open_ends h was is (Deletes to answer) u name o away = ends_log h was is u name o away
 
   -- ---- one slot
 
@@ -297,6 +304,10 @@ module _ {D : Type 0} (seen : D → DiskView) where
       subst (λ (n : ℕ). StepsExpire h.conf n (faults_behind counts (state_store h)) (ends (first_of h)).0 (ends (first_of h)).1 old now answer new) (sym a.before)
       (subst (λ (n : ℕ). StepsExpire h.conf (failures_of seen was.states) n (ends (first_of h)).0 (ends (first_of h)).1 old now answer new) (sym a.behind)
       (subst (λ (e : ℕ × ℕ). StepsExpire h.conf (failures_of seen was.states) (failures_of seen is.states) e.0 e.1 old now answer new) (sym a.first_end) step))
+  step_named h was is counts ends a told now old (Deletes to answer) new step =
+      subst (λ (c : ℕ × ℕ). StepsDelete (Rose c.0 c.1) (ends (log_of h)).0 old now to answer new) (sym a.log)
+      (subst (λ (e : ℕ × ℕ). StepsDelete (Rose (seen was.log.journal.disk).faults (seen is.log.journal.disk).faults) e.0 old now to answer new)
+      (sym a.log_end) step)
 
   -- the counts and ends of two hosts of which one slot changed
   pub are_of : (old new : HostsParts D) (n : ℕ) (x y : PartSlot D) (was is : OpenPart D) → HoldsAt n (λ z. z ≡ x) old.parts → HoldsAt n (λ z. z ≡ y) new.parts

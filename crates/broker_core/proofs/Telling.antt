@@ -14,12 +14,12 @@ use Rattle.session_script.specs.Output.{IsTold}
 use Rattle.topic_conf.specs.declared.topic.Topic.{Topic}
 use Rattle.topic_conf.specs.Topics.{partitions}
 use Rattle.call_fold.specs.declared.part.Part.{Part}
-use Rattle.call_fold.specs.declared.part.Part.TheVariants.{Foreign, Produce, Visit as PartVisit, Look, Heartbeat}
+use Rattle.call_fold.specs.declared.part.Part.TheVariants.{Foreign, Produce, Delete as PartDelete, Visit as PartVisit, Look, Heartbeat}
 use Rattle.call_fold.specs.declared.part.PartAnswer.{PartAnswer}
-use Rattle.call_fold.specs.declared.part.PartAnswer.TheVariants.{Foreign as AnswerForeign, Produce as AnswerProduce, Visit as AnswerVisit, Look as AnswerLook, Heartbeat as AnswerHeartbeat}
+use Rattle.call_fold.specs.declared.part.PartAnswer.TheVariants.{Foreign as AnswerForeign, Produce as AnswerProduce, Delete as AnswerDelete, Visit as AnswerVisit, Look as AnswerLook, Heartbeat as AnswerHeartbeat}
 use Rattle.broker_model.specs.Shards.{Answered, ShardCall, answered_by, fault_of_expiry, fault_of_release, faults_told}
 use Rattle.broker_model.specs.Shards.ShardCall.{CallForeign, CallPart, CallMembers}
-use Rattle.broker_model.specs.Shards.PartCall.{Visits, Produces, Looks, Expires}
+use Rattle.broker_model.specs.Shards.PartCall.{Visits, Produces, Looks, Expires, Deletes}
 use Rattle.broker_model.specs.Shards.MembersCall.{Beats, Ticks}
 use Rattle.broker_core.specs.Hosts.{IsThere, faults_in, faults_of_visit}
 
@@ -43,6 +43,8 @@ faults_are (CallPart shard h (Produces batch produced)) part answer e =
     ap faults_by (some_same (record { part = Produce shard batch; answer = AnswerProduce produced }) (record { part = part; answer = answer }) e)
 faults_are (CallPart shard h (Looks group looked)) part answer e =
     ap faults_by (some_same (record { part = Look shard group; answer = AnswerLook looked }) (record { part = part; answer = answer }) e)
+faults_are (CallPart shard h (Deletes to told)) part answer e =
+    ap faults_by (some_same (record { part = PartDelete shard to; answer = AnswerDelete told }) (record { part = part; answer = answer }) e)
 faults_are (CallPart shard h (Expires told)) part answer e = none_some (record { part = part; answer = answer }) e
 faults_are (CallMembers (Beats request reply)) part answer e =
     ap faults_by (some_same (record { part = Heartbeat request; answer = AnswerHeartbeat reply }) (record { part = part; answer = answer }) e)
@@ -61,6 +63,7 @@ visit_told : (topics : List Topic) (shard : ℕ) (asked : Then) (answer : PartAn
     → AllByRecursion (IsTold topics) (faults_of_visit shard asked answer)
 visit_told topics shard asked (AnswerForeign answer) lt = tt
 visit_told topics shard asked (AnswerProduce produced) lt = tt
+visit_told topics shard asked (AnswerDelete answer) lt = tt
 visit_told topics shard asked (AnswerVisit answer) lt = release_told topics shard asked answer.then lt
 visit_told topics shard asked (AnswerLook looked) lt = tt
 visit_told topics shard asked (AnswerHeartbeat reply) lt = tt
@@ -68,6 +71,7 @@ visit_told topics shard asked (AnswerHeartbeat reply) lt = tt
 pub part_told : (topics : List Topic) (part : Part) (answer : PartAnswer) → IsThere (partitions topics) part → AllByRecursion (IsTold topics) (faults_in part answer)
 part_told topics (Foreign op) answer there = tt
 part_told topics (Produce shard batch) answer there = tt
+part_told topics (PartDelete shard to) answer there = tt
 part_told topics (PartVisit shard visit) answer there = visit_told topics shard visit.then answer there
 part_told topics (Look shard group) answer there = tt
 part_told topics (Heartbeat request) answer there = tt

@@ -20,7 +20,7 @@ use Rattle.share_part.specs.Shards.{PartParts, PartShardState, Carries, shard_wi
 use Rattle.broker_model.specs.Acting.{EndsGoOn, StepsOn}
 use Rattle.broker_model.specs.Hosted.{state_a, same_name}
 use Rattle.broker_model.specs.Shards.{PartCall, reads_log}
-use Rattle.broker_model.specs.Shards.PartCall.{Visits, Produces, Looks, Expires}
+use Rattle.broker_model.specs.Shards.PartCall.{Visits, Produces, Looks, Expires, Deletes}
 use Rattle.broker_model.specs.Disks.{Disks, IsUsed, facts_of}
 use Rattle.edge_io.specs.Views.{DiskView}
 
@@ -109,7 +109,7 @@ pub record PartGoesOn {D : Type 0} (seen : D → DiskView) (old new : OpenPart D
   pub first : GoesOn seen old.states.journal.first.disk new.states.journal.first.disk
   pub second : GoesOn seen old.states.journal.second.disk new.states.journal.second.disk
 
--- an expiry uses the two disks of the states alone, a batch that of the log, and a look none
+-- an expiry uses the two disks of the states alone, a batch or a delete that of the log, and a look none
 pub record UsesStates {D : Type 0} (seen : D → DiskView) (old new : OpenPart D) : Type 0 where
   pub used : IsUsed (facts_of seen old.states.journal.first.disk) (facts_of seen new.states.journal.first.disk)
   pub second_used : IsUsed (facts_of seen old.states.journal.second.disk) (facts_of seen new.states.journal.second.disk)
@@ -117,7 +117,7 @@ pub record UsesStates {D : Type 0} (seen : D → DiskView) (old new : OpenPart D
 
 pub record UsesLog {D : Type 0} (seen : D → DiskView) (old new : OpenPart D) : Type 0 where
   pub used : IsUsed (facts_of seen old.log.journal.disk) (facts_of seen new.log.journal.disk)
-  pub states : new.states ≡ old.states
+  pub states : new.states.journal ≡ old.states.journal
 
 -- a visit uses the two disks of the states, and a fetch that of the log besides
 pub record UsesVisit {D : Type 0} (seen : D → DiskView) (asked : Then) (old new : OpenPart D) : Type 0 where
@@ -132,6 +132,7 @@ Uses seen old new (Visits visit answer unread) = UsesVisit seen visit.then old n
 Uses seen old new (Produces batch produced) = UsesLog seen old new
 Uses seen old new (Looks group looked) = new ≡ old
 Uses seen old new (Expires answer) = UsesStates seen old new
+Uses seen old new (Deletes to answer) = UsesLog seen old new
 
 -- from the shard that it stood for, it stands for one now to which this call led
 pub record LeadsPart {D : Type 0} (seen : D → DiskView) (conf : PartConfParts) (now : ℕ) (did : PartCall)

@@ -14,9 +14,10 @@ use Rattle.edge_io.specs.Causes.{Rose}
 use Rattle.edge_io.specs.Disk.{IsTold}
 use Rattle.edge_io.specs.Names.{IsTopicName, most_partitions}
 use Rattle.call_fold.specs.declared.part.Part.{Part}
-use Rattle.call_fold.specs.declared.part.Part.TheVariants.{Foreign, Produce, Visit as PartVisit, Look, Heartbeat}
+use Rattle.call_fold.specs.declared.part.Part.TheVariants.{Foreign, Produce, Delete as PartDelete, Visit as PartVisit, Look, Heartbeat}
 use Rattle.call_fold.specs.declared.part.PartAnswer.{PartAnswer}
-use Rattle.call_fold.specs.declared.part.PartAnswer.TheVariants.{Foreign as AnswerForeign, Produce as AnswerProduce, Visit as AnswerVisit, Look as AnswerLook, Heartbeat as AnswerHeartbeat}
+use Rattle.call_fold.specs.declared.part.PartAnswer.TheVariants.{Foreign as AnswerForeign, Produce as AnswerProduce, Delete as AnswerDelete, Visit as AnswerVisit}
+use Rattle.call_fold.specs.declared.part.PartAnswer.TheVariants.{Look as AnswerLook, Heartbeat as AnswerHeartbeat}
 use Rattle.session_script.specs.declared.event.Outcome.{Outcome}
 use Rattle.foreign_coord.specs.Shards.{ForeignShardState}
 use Rattle.share_members.specs.Groups.{Memberships}
@@ -375,6 +376,7 @@ HaltsBy seen old new Does = (s : Shards) → AreCarried seen old s →
 abbrev pub IsThere : ℕ → Part → Type 0
 IsThere count (Foreign op) = Unit {0}
 IsThere count (Produce shard batch) = Unit {0}
+IsThere count (PartDelete shard to) = Unit {0}
 IsThere count (PartVisit shard visit) = shard < count
 IsThere count (Look shard group) = Unit {0}
 IsThere count (Heartbeat request) = Unit {0}
@@ -383,6 +385,7 @@ IsThere count (Heartbeat request) = Unit {0}
 abbrev pub faults_of_visit : ℕ → Then → PartAnswer → List Outcome
 faults_of_visit shard asked (AnswerForeign answer) = []
 faults_of_visit shard asked (AnswerProduce produced) = []
+faults_of_visit shard asked (AnswerDelete answer) = []
 faults_of_visit shard asked (AnswerVisit answer) = fault_of_release shard asked answer.then
 faults_of_visit shard asked (AnswerLook looked) = []
 faults_of_visit shard asked (AnswerHeartbeat reply) = []
@@ -390,6 +393,7 @@ faults_of_visit shard asked (AnswerHeartbeat reply) = []
 abbrev pub faults_in : Part → PartAnswer → List Outcome
 faults_in (Foreign op) answer = []
 faults_in (Produce shard batch) answer = []
+faults_in (PartDelete shard to) answer = []
 faults_in (PartVisit shard visit) answer = faults_of_visit shard visit.then answer
 faults_in (Look shard group) answer = []
 faults_in (Heartbeat request) answer = []

@@ -15,6 +15,7 @@ use Rattle.part_log.specs.Logs.{and_pending}
 use Rattle.part_log.specs.Shards.{log_at}
 use Rattle.part_log.specs.Starts.{Log}
 use Rattle.share_coord.specs.Parts.{StoreParts}
+use Rattle.share_coord.specs.Raising.{raised_states}
 use Rattle.share_coord.specs.Stored.{AreDamaged}
 use Rattle.foreign_coord.specs.Shards.{ForeignShardState}
 use Rattle.share_part.specs.Hosting.{ArePartText, PartConfParts}
@@ -151,7 +152,7 @@ pub record IsLost {D : Type 0} (seen : D → DiskView) (choice : ℕ) (old new :
   pub quiet : (seen new).faults ≡ (seen old).faults
 
 -- The power of its three disks was lost with this choice, and it was opened again: it is the old shard, whose pending writes landed or
--- didn't.
+-- didn't; each table starts where the log does or behind.
 pub record IsRestartedPart {D : Type 0} (seen : D → DiskView)
     (choice : ℕ) (conf : PartConfParts) (old : OpenPart D) (shard : PartShardState) (new : OpenPart D) : Type 0 where
   pub l : List ℕ
@@ -159,10 +160,11 @@ pub record IsRestartedPart {D : Type 0} (seen : D → DiskView)
   pub b : List ℕ
   pub is : Log
   pub states : ShareStates
-  pub carried : IsPartCarried seen conf new (shard_with is states)
+  pub carried : IsPartCarried seen conf new (shard_with is (raised_states is.start states))
   pub log_is : IsDoneOr (log_at shard.log) (and_pending (log_at shard.log) shard.log.pending) is
+  pub later : shard.log.start ≤ is.start
   pub states_are : IsDoneOr shard.states shard.pending states
-  pub stands : ArePartText conf l a b is states
+  pub stands : ArePartText conf l a b is (raised_states is.start states)
   pub were : (seen old.log.journal.disk).image l × (seen old.states.journal.first.disk).image a × (seen old.states.journal.second.disk).image b
   pub log_lost : (seen new.log.journal.disk).losses ≡ (seen old.log.journal.disk).losses ++ (choice, l) ∷ []
   pub first_lost : (seen new.states.journal.first.disk).losses ≡ (seen old.states.journal.first.disk).losses ++ (choice, a) ∷ []

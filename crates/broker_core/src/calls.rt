@@ -1,18 +1,19 @@
 // Calls on the shard in one of the slots of hosted partitions, by its number.
 ghost use Rattle.std.specs.Prelude.{Bool, ◌≡◌, ◌⊎◌, ◌≤◌, ◌^◌, ℕ, IfOk, OnErr};
-ghost use Rattle.call_fold.specs.Parts.{HasTellableBase, IsTellableLook, IsTellableVisit};
+ghost use Rattle.call_fold.specs.Parts.{HasTellableBase, HasTellableStart, IsTellableLook, IsTellableVisit};
 ghost use Rattle.call_fold.specs.declared.part.Produced.{Produced};
+ghost use Rattle.share_model.specs.declared.delete.DeleteAnswer.{DeleteAnswer};
 ghost use Rattle.share_model.specs.declared.visit.ExpireAnswer.{ExpireAnswer};
 ghost use Rattle.share_model.specs.declared.visit.VisitAnswer.{VisitAnswer};
 ghost use Rattle.broker_model.specs.Hosted.{ChangesAt, HoldsAt};
-ghost use Rattle.broker_model.specs.Shards.PartCall.{Visits, Produces, Looks, Expires};
+ghost use Rattle.broker_model.specs.Shards.PartCall.{Visits, Produces, Looks, Expires, Deletes};
 ghost use Rattle.broker_core.specs.Hosts.{AreOpenParts, HaltsSlot, IsOpenState, LeadsSlot};
 
-use crate::part::{expire, look, produce, visit};
+use crate::part::{delete, expire, look, produce, visit};
 use crate::slot::{PartSlot, PartState};
 use call_fold::{Looked, Produced};
 use edge_io::Disk;
-use share_model::{ExpireAnswer, Name, NoMemory, Visit, VisitAnswer};
+use share_model::{DeleteAnswer, ExpireAnswer, Name, NoMemory, Visit, VisitAnswer};
 use std::alloc::Global;
 
 // ---- batches
@@ -52,6 +53,42 @@ pub fn produce_at<D: Disk>(
         return Err(NoMemory);
     };
     produce_in(now, batch, slot)
+}
+
+fn delete_in<D: Disk>(now: u64, to: i64, slot: &mut PartSlot<D>) -> Result<DeleteAnswer, NoMemory>
+    requires now { now ≤ 2 ^ 62 }
+    requires open { IsOpenState slot.old.state }
+    ensures ok { IfOk result (λ answer. LeadsSlot D.seen now (Deletes to answer) slot.old slot.new) }
+    ensures stopped { OnErr result (HaltsSlot D.seen now
+        (λ did. (answer : DeleteAnswer) × (did ≡ Deletes to answer)) slot.old slot.new) }
+    ensures fair { IfOk result HasTellableStart }
+{
+    match &mut slot.state {
+        PartState::Open(part) => delete(now, to, part),
+        _ => unreachable!(),
+    }
+}
+
+/// A deletion of records of the shard with this number.
+pub fn delete_at<D: Disk>(
+    now: u64,
+    shard: u32,
+    to: i64,
+    parts: &mut Vec<PartSlot<D>>,
+) -> Result<DeleteAnswer, NoMemory>
+    requires now { now ≤ 2 ^ 62 }
+    requires open { AreOpenParts parts.old.items }
+    ensures ok { IfOk result (λ answer. ChangesAt shard
+        (LeadsSlot D.seen now (Deletes to answer)) parts.old.items parts.new.items) }
+    ensures stopped { OnErr result ((parts.new.items ≡ parts.old.items) ⊎ ChangesAt shard (HaltsSlot D.seen now
+        (λ did. (answer : DeleteAnswer) × (did ≡ Deletes to answer))) parts.old.items parts.new.items) }
+    ensures fair { IfOk result HasTellableStart }
+{
+    // Each shard that is asked is there.
+    let Some(slot) = parts.get_mut(shard as usize) else {
+        return Err(NoMemory);
+    };
+    delete_in(now, to, slot)
 }
 
 // ---- visits

@@ -4,7 +4,7 @@ ghost use Rattle.call_fold.specs.Parts.{IsAnswerTo};
 ghost use Rattle.call_fold.specs.declared.part.PartAnswer.{PartAnswer};
 ghost use Rattle.broker_core.specs.Hosts.{AreApart, AreOpen, Did, GoOn, HaltsBy, IsThere, LeadsBy, StaysHosted, disks_in, parts_of};
 
-use crate::calls::{look_at, produce_at, visit_at};
+use crate::calls::{delete_at, look_at, produce_at, visit_at};
 use crate::shard::act as act_on_foreign;
 use crate::slot::{ForeignSlot, PartSlot};
 use conn_core::{Part, PartAnswer};
@@ -54,6 +54,10 @@ pub fn act<D: Disk>(
         Part::Produce { shard, batch } => {
             let produced = produce_at(now, *shard, batch.as_slice(), &mut hosts.parts)?;
             Ok(PartAnswer::Produce(produced))
+        }
+        Part::Delete { shard, to } => {
+            let answer = delete_at(now, *shard, *to, &mut hosts.parts)?;
+            Ok(PartAnswer::Delete(answer))
         }
         Part::Visit { shard, visit } => {
             let answer = visit_at(now, *shard, visit, &mut hosts.parts)?;

@@ -7,15 +7,16 @@ ghost use Rattle.edge_io.specs.Disk.{IsTold};
 ghost use Rattle.edge_io.specs.Names.{IsTopicName, hosted_name};
 ghost use Rattle.share_model.specs.ForeignRules.{ShareStates, share_state_at};
 ghost use Rattle.part_log.specs.Starts.{Log};
+ghost use Rattle.share_model.specs.declared.delete.DeleteAnswer.{DeleteAnswer};
 ghost use Rattle.share_model.specs.declared.visit.ExpireAnswer.{ExpireAnswer};
 ghost use Rattle.share_model.specs.declared.visit.VisitAnswer.{VisitAnswer};
-ghost use Rattle.call_fold.specs.Parts.{HasTellableBase, IsTellableLook, IsTellableVisit};
+ghost use Rattle.call_fold.specs.Parts.{HasTellableBase, HasTellableStart, IsTellableLook, IsTellableVisit};
 ghost use Rattle.call_fold.specs.declared.part.Produced.{Produced};
 ghost use Rattle.share_coord.specs.States.{states_of};
 ghost use Rattle.share_part.specs.Hosting.{ArePartText, key_of};
 ghost use Rattle.share_part.specs.Shards.{PartShardState};
 ghost use Rattle.broker_model.specs.Shards.{look_at, result_of};
-ghost use Rattle.broker_model.specs.Shards.PartCall.{Visits, Produces, Expires};
+ghost use Rattle.broker_model.specs.Shards.PartCall.{Visits, Produces, Expires, Deletes};
 ghost use Rattle.broker_core.specs.Bays.{AreFed, IsOfDevice};
 ghost use Rattle.broker_core.specs.Carried.{GoesOn, HaltsPart, IsFresh, IsPartCarried, LeadsPart, PartGoesOn};
 ghost use Rattle.broker_core.specs.Hosts.{PartStandsAlone};
@@ -26,7 +27,9 @@ use crate::names::disk_name;
 use call_fold::{Looked, Produced};
 use edge_io::Disk;
 use flex_fields::Items;
-use share_model::{ExpireAnswer, LogFault, Name, NoMemory, Visit, VisitAnswer};
+use share_model::{
+    DeleteAnswer, ExpireAnswer, LogFault, Name, NoMemory, Placed, Visit, VisitAnswer,
+};
 use share_part::{PartConf, PartFault, PartShard};
 use std::alloc::Global;
 use window_runs::WindowRuns;
@@ -34,15 +37,15 @@ use window_runs::WindowRuns;
 // ---- calls
 
 // What is told of a batch that was added or refused.
-fn told(added: Result<u64, LogFault>) -> Result<Produced, NoMemory>
+fn told(added: Result<Placed, LogFault>) -> Result<Produced, NoMemory>
     requires not_behind { (end : ℕ) → added ≢ Err (LogFault.Behind end) }
-    requires below { IfOk added (λ base. base ≤ 2 ^ 62) }
+    requires below { IfOk added (λ placed. (placed.base ≤ 2 ^ 62) × (placed.start ≤ 2 ^ 62)) }
     ensures ok { IfOk result (λ produced. result_of produced ≡ added) }
     ensures fair { IfOk result HasTellableBase }
     ensures memory { OnErr result (added ≡ Err LogFault.NoMemory) }
 {
     match added {
-        Ok(base) => Ok(Produced::Base(base)),
+        Ok(placed) => Ok(Produced::Base(placed)),
         Err(LogFault::Batch(fault)) => Ok(Produced::Batch(fault)),
         Err(LogFault::Store(fault)) => Ok(Produced::Store(fault)),
         Err(LogFault::NoMemory) => Err(NoMemory),
@@ -71,6 +74,29 @@ pub fn produce<D: Disk>(
         return Err(NoMemory);
     }
     told(added)
+}
+
+/// Deletes records of a partition. Where a disk has found no memory, it answers want of memory.
+pub fn delete<D: Disk>(
+    now: u64,
+    to: i64,
+    part: &mut PartShard<D, WindowRuns>,
+) -> Result<DeleteAnswer, NoMemory>
+    requires { now ≤ 2 ^ 62 }
+    ensures ok { IfOk result (λ answer. (s : PartShardState) → IsPartCarried D.seen part.old.conf part.old s →
+        LeadsPart D.seen part.old.conf now (Deletes to answer) part.old s part.new) }
+    ensures stopped { OnErr result ((s : PartShardState) → IsPartCarried D.seen part.old.conf part.old s →
+        HaltsPart D.seen part.old.conf now (λ did. (answer : DeleteAnswer) × (did ≡ Deletes to answer))
+        part.old s part.new) }
+    ensures fair { IfOk result HasTellableStart }
+    ensures disks { PartGoesOn D.seen part.old part.new }
+    ensures conf { part.new.conf ≡ part.old.conf }
+{
+    let answer = part.delete(now, to);
+    if part.starved() {
+        return Err(NoMemory);
+    }
+    Ok(answer)
 }
 
 /// Does a visit to a partition. Where a disk has found no memory, it answers want of memory.

@@ -1,16 +1,15 @@
 -- No acknowledgement that was answered as done is lost.
-use Rattle.std.proofs.Common.{◌≡◌, ◌≢◌, ◌≤◌, ◌<◌, ◌+◌, inl, inr, ⊎_elim, refl, sym, ap, ◌∙◌, subst, arith, ℕ, List, [], ◌∷◌, ◌++◌, Bool, true, false, Option, Some, None, if◌then◌else◌}
+use Rattle.std.proofs.Common.{◌≡◌, ◌≢◌, ◌⊎◌, ◌≤◌, ◌<◌, ◌+◌, inl, inr, ⊎_elim, refl, sym, ap, ◌∙◌, subst, arith, ℕ, ℤ, List, [], ◌∷◌, ◌++◌, Bool, true, false, Option, Some, None, if◌then◌else◌}
 use Rattle.std.proofs.lemmas.Bool.{true≢false}
 use Rattle.std.proofs.lemmas.Bool.Decides.{nat_tests}
 use Rattle.std.proofs.lemmas.Map.Lookups.{exact_unsigned}
 use Rattle.std.specs.Prelude.{IsSome, is_none, nat_lt, unwrap_or}
-use Rattle.std.specs.Option.{option_or}
+use Rattle.std.specs.Option.{option_map, option_or}
 use Rattle.std.specs.BTreeMap.{insert_entry}
 use Rattle.std.specs.Cmp.{nat_cmp_total}
 use Rattle.std.specs.List.{AllByRecursion}
 use Rattle.std.specs.Ordering.{nat_cmp}
 use Rattle.edge_io.specs.Causes.{Rose}
-use Rattle.ack_ranges.specs.Batches.{kind_at}
 use Rattle.share_model.specs.ForeignRules.{ShareStates, size_of}
 use Rattle.share_model.specs.Held.{Held, hold_at}
 use Rattle.share_model.specs.Keys.{key_cmp}
@@ -18,6 +17,8 @@ use Rattle.share_model.specs.Logs.{Batch as LogBatch, IsLog, end_of}
 use Rattle.share_model.specs.Runs.{row_at}
 use Rattle.share_model.specs.ShareStates.{ShareState}
 use Rattle.share_model.specs.declared.ack.AckKind.{AckKind}
+use Rattle.share_model.specs.declared.delete.DeleteAnswer.{DeleteAnswer}
+use Rattle.share_model.specs.declared.delete.DeleteAnswer.TheVariants.{Done as Deleted, OutOfRange, Store as delete_store}
 use Rattle.share_model.specs.declared.fault.StoreFault.{StoreFault}
 use Rattle.share_model.specs.declared.fault.StoreFault.TheVariants.{Device, Full}
 use Rattle.share_model.specs.declared.hold.Hold.{Hold}
@@ -35,10 +36,16 @@ use Rattle.share_model.specs.declared.visit.Visit.{Visit}
 use Rattle.share_model.specs.declared.visit.VisitAnswer.{VisitAnswer}
 use Rattle.part_log.specs.Shards.{LogShardState, log_at}
 use Rattle.part_log.proofs.Rising.{end_more}
+use Rattle.part_log.proofs.Writes.{text_within}
+use Rattle.offset_runs.specs.Parts.{from_on}
+use Rattle.share_coord.specs.Raising.{raised, raised_states, starts_below}
+use Rattle.share_coord.proofs.Raising.{below_size, raised_at, raised_below, raised_not}
 use Rattle.share_part.specs.Acknowledging.{Acknowledges, AreSettled, IsActedOn, StoresActs}
+use Rattle.share_part.specs.Deleting.{Deletes as DeletesPart, DeletesBelow, DeletesNothing, IsRaisedTo}
 use Rattle.share_part.specs.Expiring.{StepsGroups, ending}
 use Rattle.share_part.specs.Following.{Acquires, Does as DoesThen, Follows, Fetches, HasItsTable, MakesTable, fault_of, releases_of}
 use Rattle.share_part.specs.Hosting.{PartConfParts, key_of}
+use Rattle.share_part.specs.Named.{named_from}
 use Rattle.share_part.specs.Settling.{Acts, IsHeldBy, IsSettled, act_row, held_after, is_closed_state, settled, stored_after}
 use Rattle.share_part.specs.Shards.{PartShardState, new_state, raised_to}
 use Rattle.share_part.specs.Tables.{delivery_of, one_more, table_of, unless_held, with_holds}
@@ -47,18 +54,20 @@ use Rattle.share_part.specs.declared.limits.Limits.{Limits}
 use Rattle.topic_conf.specs.Configs.{ConfigParts}
 use Rattle.broker_model.specs.Hosted.{Hosted, first_of, state_store}
 use Rattle.broker_model.specs.Shards.{HostedPart, PartCall, StepsPart, faults_before, faults_behind}
-use Rattle.broker_model.specs.Shards.PartCall.{Visits, Produces, Looks, Expires}
+use Rattle.broker_model.specs.Shards.PartCall.{Visits, Produces, Looks, Expires, Deletes}
 use Rattle.broker_model.specs.Keeping.{HasKept, IsActedOnIn, KeepsAcknowledgements}
 use Rattle.broker_model.specs.Locks.{Record}
 use Rattle.broker_model.specs.Starts.{IsWell, table_in}
 use Rattle.broker_model.specs.Runs.{Step, IsRun}
 use Rattle.broker_model.specs.States.{State, counts_of, ends_of}
+use Rattle.broker_model.proofs.Above.{lt_or_le, none_from}
 use Rattle.broker_model.proofs.Chains.{run_parts}
 use Rattle.broker_model.proofs.Goes.{Called, Goes, IsStepOf, called, parts_of, went}
 use Rattle.broker_model.proofs.Holding.{IsFree, acts_hold, hold_in, its_held, one_of_two, stores_hold, taken_free}
-use Rattle.broker_model.proofs.Lists.{all_entry, entry_at, entry_holds, none_not, some_same}
+use Rattle.broker_model.proofs.Lists.{all_entry, entry_at, entry_holds, holds_of, none_not, some_same}
 use Rattle.broker_model.proofs.Histories.{keys_exact, keys_total}
 use Rattle.broker_model.proofs.Maps.{set_found, set_other}
+use Rattle.broker_model.proofs.Raises.{pending_one, row_from}
 use Rattle.broker_model.proofs.Passing.{LogGoes, first_entry, goes_log, rises_back, slot_below, table_at, table_set}
 
 -- ---- logs
@@ -108,6 +117,22 @@ kept_longer o row log more (Some state) le k = let ge = k.1 in (k.0, omega (arit
 kept_has : (o : ℕ) (row : Row) (log : List LogBatch) (t : Option ShareState) → KeptIn o row log t → HasKept o row t
 kept_has o row log None k = k
 kept_has o row log (Some state) k = k.0
+
+-- so it does where the table is raised to an offset that isn't behind the log's end
+raised_kept : (o : ℕ) (row : Row) (n : ℕ) (log : List LogBatch) (t : Option ShareState) → n ≤ end_of log → KeptIn o row log t → KeptIn o row log (option_map (raised n) t)
+raised_kept o row n log None within k = k
+raised_kept o row n log (Some state) within k = by_low (starts_below state.start n) refl where
+  cut : n ≤ o → starts_below state.start n ≡ true → (o < size_of state.start) ⊎ (row_at state.runs o ≡ Some row) → row_at (from_on state.runs n) o ≡ Some row
+  cut from low (inl below) = let up = below_size state.start n low in let clash : ⊥ = omega (arith, from, up, below) in absurd clash
+  cut from low (inr has) = row_from state.runs n o from ∙ has
+
+  by_offset : starts_below state.start n ≡ true → (o < n) ⊎ (n ≤ o) → (o < n) ⊎ (row_at (from_on state.runs n) o ≡ Some row)
+  by_offset low (inl below) = inl below
+  by_offset low (inr from) = inr (cut from low k.0)
+
+  by_low : (b : Bool) → starts_below state.start n ≡ b → KeptIn o row log (Some (raised n state))
+  by_low true low = subst (λ (x : ShareState). KeptIn o row log (Some x)) (sym (raised_below state n low)) (by_offset low (lt_or_le o n), within)
+  by_low false high = subst (λ (x : ShareState). KeptIn o row log (Some x)) (sym (raised_not state n high)) k
 
 -- the record is held by nobody, and its row stays
 record Keeps (o : ℕ) (row : Row) (conf : PartConfParts) (group : List ℕ) (log : List LogBatch) (p : PartShardState) : Type 0 where
@@ -298,10 +323,10 @@ module _ (o : ℕ) (row : Row) (closed : is_closed_state row.state ≡ true) whe
       follows_keep unread false p k = does_keep visit.then p k
 
       acks_keep : (ack : AckOutcome) → Acknowledges conf rose end a visit b ack → IsStill a → IsStill b
-      acks_keep acknowledged p k = stores_keep rose end a visit.group (kind_at visit.acks) b None same p.1 k
+      acks_keep acknowledged p k = stores_keep rose end a visit.group (named_from a.log.start visit.acks) b None same p.1 k
       acks_keep (Malformed fault) p k = still a b p.1.states p.1.pending p.1.held k
       acks_keep (NotHeld offset) p k = still a b p.2.states p.2.pending p.2.held k
-      acks_keep (ack_store fault) p k = stores_keep rose end a visit.group (kind_at visit.acks) b (Some fault) same p.1 k
+      acks_keep (ack_store fault) p k = stores_keep rose end a visit.group (named_from a.log.start visit.acks) b (Some fault) same p.1 k
 
     groups_keep : (c l end last : ℕ) (groups : List (List ℕ)) (freed : ℕ) (a b : PartShardState) (answer : ExpireAnswer)
         → StepsGroups conf c l end last groups freed a answer b → a.log.batches ≡ log → IsStill a → IsStill b
@@ -370,6 +395,31 @@ module _ (o : ℕ) (row : Row) (closed : is_closed_state row.state ≡ true) (gr
   abbrev KeepsPart : HostedPart → Type 0
   KeepsPart p = Keeps o row p.hosted.conf group p.shard.log.batches p.shard
 
+  table_raised : (conf : PartConfParts) (n : ℕ) (states : ShareStates) → table_at conf (raised_states n states) group ≡ option_map (raised n) (table_at conf states group)
+  table_raised conf n states = raised_at n states (key_of conf group)
+
+  -- a delete
+  raised_keeps : (h : Hosted) (n : ℕ) (x y : PartShardState) → n ≤ end_of x.log.batches → IsRaisedTo n x y → Keeps o row h.conf group x.log.batches x
+      → Keeps o row h.conf group x.log.batches y
+  raised_keeps h n x y within raises k = record {
+    free = ap (λ (z : Held). hold_at z o) (raises.held group) ∙ none_from n (x.held group) o k.free;
+    now = subst (λ (z : ShareStates). KeptIn o row x.log.batches (table_at h.conf z group)) (sym raises.states)
+        (subst (KeptIn o row x.log.batches) (sym (table_raised h.conf n x.states)) (raised_kept o row n x.log.batches (table_at h.conf x.states group) within k.now));
+    lost = λ found at.
+        let w = pending_one n x.pending found (sym raises.pending ∙ at) in
+        subst (λ (z : ShareStates). KeptIn o row x.log.batches (table_at h.conf z group)) w.2
+        (subst (KeptIn o row x.log.batches) (sym (table_raised h.conf n w.0))
+        (raised_kept o row n x.log.batches (table_at h.conf w.0 group) within (k.lost w.0 w.1)));
+  }
+
+  delete_keeps : (h : Hosted) (x y : PartShardState) → IsLog x.log.batches → (rose : Type 0) (end : ℕ) (to : ℤ) (answer : DeleteAnswer)
+      → DeletesPart rose end x to answer y → Keeps o row h.conf group x.log.batches x → Keeps o row h.conf group x.log.batches y
+  delete_keeps h x y is_log rose end to (OutOfRange at) p k = still o row closed h.conf group x.log.batches is_log x y p.3.states p.3.pending p.3.held k
+  delete_keeps h x y is_log rose end to (delete_store fault) p k = still o row closed h.conf group x.log.batches is_log x y p.3.states p.3.pending p.3.held k
+  delete_keeps h x y is_log rose end to (Deleted start) p k = ⊎_elim
+      (λ (d : DeletesNothing x p.0 start y). still o row closed h.conf group x.log.batches is_log x y d.still.states d.still.pending d.still.held k)
+      (λ (d : DeletesBelow end x p.0 start y). raised_keeps h p.0 x y d.log.allowed.within d.tables k) p.2
+
   part_keeps : (s : Step) (now : ℕ) (h : Hosted) (x y : PartShardState) (did : PartCall) → IsLog x.log.batches
       → StepsPart true (counts_of s.before s.after) (ends_of s.before s.after) now h x did y → Keeps o row h.conf group x.log.batches x
       → Keeps o row h.conf group x.log.batches y
@@ -385,6 +435,7 @@ module _ (o : ℕ) (row : Row) (closed : is_closed_state row.state ≡ true) (gr
   part_keeps s now h x y (Expires answer) is_log p k =
       groups_keep o row closed h.conf group x.log.batches is_log _ _ _ _ _ 0 (raised_to now x) y answer p.groups refl
       (still o row closed h.conf group x.log.batches is_log x (raised_to now x) refl refl refl k)
+  part_keeps s now h x y (Deletes to answer) is_log p k = delete_keeps h x y is_log _ _ to answer p.does k
 
   goes_keep : (n : ℕ) (s : Step) (x y : HostedPart) → Goes n s x y → IsLog x.shard.log.batches → KeepsPart x → KeepsPart y
   goes_keep n s x y (inl same) is_log k = subst KeepsPart (sym same) k
@@ -395,19 +446,30 @@ module _ (o : ℕ) (row : Row) (closed : is_closed_state row.state ≡ true) (gr
       (part_keeps s c.now c.hosted x.shard y.shard c.did is_log c.step.step
       (subst (λ (h : Hosted). Keeps o row h.conf group x.shard.log.batches x.shard) c.step.was k)))
   goes_keep n s x y (inr (inr lost)) is_log k =
-      subst (λ (h : Hosted). Keeps o row h.conf group y.shard.log.batches y.shard) (sym lost.lands.hosted)
-      (longer o row x.hosted.conf group x.shard.log.batches y.shard.log.batches y.shard
-      (end_grows x.shard.log.batches y.shard.log.batches (goes_log n s x y (inr (inr lost))) is_log)
-      (record {
+      subst (λ (h : Hosted). Keeps o row h.conf group y.shard.log.batches y.shard) (sym lost.lands.hosted) (record {
         free = ap (λ (z : PartShardState). hold_at (z.held group) o) lost.lands.shard;
-        now = subst (λ (z : ShareStates). KeptIn o row x.shard.log.batches (table_at x.hosted.conf z group))
+        now = subst (λ (z : ShareStates). KeptIn o row y.shard.log.batches (table_at x.hosted.conf z group))
             (sym (ap (λ (z : PartShardState). z.states) lost.lands.shard))
+            (subst (KeptIn o row y.shard.log.batches) (sym (table_raised x.hosted.conf lost.lands.log.start lost.lands.states))
+            (raised_kept o row lost.lands.log.start y.shard.log.batches (table_at x.hosted.conf lost.lands.states group) within
+            (kept_longer o row x.shard.log.batches y.shard.log.batches (table_at x.hosted.conf lost.lands.states group)
+            (end_grows x.shard.log.batches y.shard.log.batches (goes_log n s x y (inr (inr lost))) is_log)
             (⊎_elim
             (λ same. subst (λ (z : ShareStates). KeptIn o row x.shard.log.batches (table_at x.hosted.conf z group)) (sym same) k.now)
             (λ own. k.lost lost.lands.states own)
-            lost.lands.states_are);
+            lost.lands.states_are))));
         lost = λ states at. absurd (none_not states (sym (ap (λ (z : PartShardState). z.pending) lost.lands.shard) ∙ at));
-      }))
+      })
+    where
+      starts : y.shard.log.start ≡ lost.lands.log.start
+      starts = ap (λ (z : PartShardState). z.log.start) lost.lands.shard
+
+      its : y.shard.log.start ≤ end_of y.shard.log.batches
+      its = subst (λ (z : PartShardState). z.log.start ≤ end_of z.log.batches) (sym lost.opens.shard)
+          (text_within _ lost.opens.log lost.opens.stands.log_is)
+
+      within : lost.lands.log.start ≤ end_of y.shard.log.batches
+      within = omega (arith, starts, its)
 
   -- ---- a run
 
@@ -447,15 +509,18 @@ module _ (conf : ConfigParts) (r : Record) (s : Step) (c : IsActedOnIn r s) (ste
     does = subst (λ (ack : AckOutcome). Acknowledges c.hosted.conf (Rose (faults_before (counts_of s.before s.after) (state_store c.hosted)) p.counted)
         (s.before.ends (first_of c.hosted)) call_of.old.shard c.visit p.between ack) c.done p.acks.does
 
+    named : named_from call_of.old.shard.log.start c.visit.acks r.offset ≡ Some c.kind
+    named = holds_of r.shard (λ (p : HostedPart). named_from p.shard.log.start c.visit.acks r.offset ≡ Some c.kind) (parts_of s.before) call_of.old call_of.was c.named
+
     h : (hold : Hold) × (hold_at (call_of.old.shard.held c.visit.group) r.offset ≡ Some hold)
-    h = held_some c.visit.member (hold_at (call_of.old.shard.held c.visit.group) r.offset) (does.0.1 r.offset (subst IsSome (sym c.named) refl))
+    h = held_some c.visit.member (hold_at (call_of.old.shard.held c.visit.group) r.offset) (does.0.1 r.offset (subst IsSome (sym named) refl))
 
     by_stored : StoresActs c.hosted.conf (Rose (faults_before (counts_of s.before s.after) (state_store c.hosted)) p.counted) (s.before.ends (first_of c.hosted))
-        call_of.old.shard c.visit.group (kind_at c.visit.acks) p.between None → Begun
-    by_stored (inl none) = absurd (none_not c.kind (sym (none.0 r.offset) ∙ c.named))
+        call_of.old.shard c.visit.group (named_from call_of.old.shard.log.start c.visit.acks) p.between None → Begun
+    by_stored (inl none) = absurd (none_not c.kind (sym (none.0 r.offset) ∙ named))
     by_stored (inr some) =
         let between : Keeps r.offset (settled c.hosted.conf.limit c.kind h.0.count) c.hosted.conf c.visit.group call_of.old.shard.log.batches p.between =
-        begins c.hosted.conf c.visit.group r.offset (kind_at c.visit.acks) c.kind c.named call_of.old.shard p.between h.0 h.1 is_log some.1 in
+        begins c.hosted.conf c.visit.group r.offset (named_from call_of.old.shard.log.start c.visit.acks) c.kind named call_of.old.shard p.between h.0 h.1 is_log some.1 in
         let after : is_closed_state (settled c.hosted.conf.limit c.kind h.0.count).state ≡ true
         → Keeps r.offset (settled c.hosted.conf.limit c.kind h.0.count) c.hosted.conf c.visit.group call_of.old.shard.log.batches call_of.new.shard = λ closed.
         follows_keep r.offset (settled c.hosted.conf.limit c.kind h.0.count) closed c.hosted.conf c.visit.group call_of.old.shard.log.batches is_log

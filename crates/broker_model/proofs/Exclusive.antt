@@ -14,11 +14,11 @@ use Rattle.broker_model.specs.States.{State, counts_of, ends_of}
 use Rattle.broker_model.proofs.Chains.{run_parts}
 use Rattle.broker_model.proofs.Goes.{Goes, IsStepOf, called, parts_of, went}
 use Rattle.broker_model.proofs.Lists.{contains_front, contains_rest, entry_at, entry_holds, holds_of, some_same}
-use Rattle.broker_model.proofs.PartLocks.{Locked, grant_ends, grant_lock, step_lock}
+use Rattle.broker_model.proofs.PartLocks.{Kept, grant_ends, grant_lock, step_lock}
 
 module _ (r : Record) (member : List ℕ) (until : ℕ) where
   abbrev IsLocked : PartShardState → Type 0
-  IsLocked p = Locked r.group r.offset member until p
+  IsLocked p = Kept r.group r.offset member until p
 
   abbrev Ends : Step → Type 0
   Ends s = EndsLock r member until s
@@ -55,16 +55,16 @@ module _ (r : Record) (member : List ℕ) (until : ℕ) where
       go y is (inr (inr lost)) = inr (inr (lost.choice, lost.event))
 
     -- what the step is to the partition, as its shard steps
-    record IsAlone (hosted : Hosted) (p : PartStep) : Type 0 where
-      old : HostedPart
-      new : HostedPart
-      was : entry_at r.shard (parts_of s.before) ≡ Some old
-      is : entry_at r.shard (parts_of s.after) ≡ Some new
-      before : old.shard ≡ p.before
-      after : new.shard ≡ p.after
-      steps : StepsAlone hosted p.before p.act p.after
+    pub record IsAlone (hosted : Hosted) (p : PartStep) : Type 0 where
+      pub old : HostedPart
+      pub new : HostedPart
+      pub was : entry_at r.shard (parts_of s.before) ≡ Some old
+      pub is : entry_at r.shard (parts_of s.after) ≡ Some new
+      pub before : old.shard ≡ p.before
+      pub after : new.shard ≡ p.after
+      pub steps : StepsAlone hosted p.before p.act p.after
 
-    taken_alone : (hosted : Hosted) (p : PartStep) → IsSeenBy r.shard hosted p s → IsAlone hosted p
+    pub taken_alone : (hosted : Hosted) (p : PartStep) → IsSeenBy r.shard hosted p s → IsAlone hosted p
     taken_alone hosted p k =
         let c = called conf s step r.shard hosted k.did k.call in
         let before : c.old.shard ≡ p.before = holds_of r.shard (λ (q : HostedPart). q.shard ≡ p.before) (parts_of s.before) c.old c.was k.before in

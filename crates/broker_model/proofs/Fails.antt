@@ -1,10 +1,12 @@
 -- No more writes and readings fail on a disk in a step than its count rises by.
-use Rattle.std.proofs.Common.{◌≡◌, ◌≤◌, ◌+◌, inl, inr, ⊎_elim, refl, sym, subst, arith, ℕ, List, [], ◌∷◌, Bool, true, false, cond, Option, Some, None, if◌then◌else◌}
+use Rattle.std.proofs.Common.{◌≡◌, ◌≤◌, ◌+◌, inl, inr, ⊎_elim, refl, sym, subst, arith, ℕ, ℤ, List, [], ◌∷◌, Bool, true, false, cond, Option, Some, None, if◌then◌else◌}
 use Rattle.edge_io.specs.Causes.{Rose}
 use Rattle.session_script.specs.declared.event.Event.{Event}
 use Rattle.session_script.specs.declared.event.Outcome.{Outcome}
 use Rattle.share_model.specs.ForeignRules.{share_state_at}
 use Rattle.share_model.specs.ShareStates.{ShareState}
+use Rattle.share_model.specs.declared.delete.DeleteAnswer.{DeleteAnswer}
+use Rattle.share_model.specs.declared.delete.DeleteAnswer.TheVariants.{Done as Deleted, OutOfRange, Store as delete_store}
 use Rattle.share_model.specs.declared.fault.StoreFault.{StoreFault}
 use Rattle.share_model.specs.declared.fault.StoreFault.TheVariants.{Device, Full}
 use Rattle.share_model.specs.declared.foreign.ForeignOp.{ForeignOp}
@@ -22,19 +24,20 @@ use Rattle.topic_conf.specs.Configs.{ConfigParts}
 use Rattle.foreign_coord.specs.Shards.{ForeignShardState, StepsForeign}
 use Rattle.part_log.specs.Shards.{LogShardState, StepsLog}
 use Rattle.share_part.specs.Acknowledging.{Acknowledges, StoresActs}
+use Rattle.share_part.specs.Deleting.{Deletes as DeletesPart}
 use Rattle.share_part.specs.Expiring.{StepsGroups}
 use Rattle.share_part.specs.Following.{Does, Fetches, Follows, MakesTable, Reading, fault_of, releases_of}
 use Rattle.share_part.specs.Hosting.{PartConfParts, key_of}
 use Rattle.share_part.specs.Settling.{Acts as ShareActs}
-use Rattle.share_part.specs.Shards.{PartShardState}
+use Rattle.share_part.specs.Shards.{PartShardState, base_in}
 use Rattle.share_part.specs.Visits.{StepsVisit}
 use Rattle.share_part.specs.declared.limits.Limits.{Limits}
 use Rattle.call_fold.specs.declared.part.Produced.{Produced}
 use Rattle.call_fold.specs.declared.part.Produced.TheVariants.{Base, Batch, Store}
 use Rattle.broker_model.specs.Hosted.{Hosted, log_of, state_a, StoreDisks, log_store, state_store, foreign_store, same_store}
-use Rattle.broker_model.specs.Shards.{Counts, PartCall, Shards, ShardCall, StepsHosted, StepsPart, StepsShards, faults_met, failures_in, log_faults_met, result_of, state_faults_met, store_fault_of_ack, store_fault_of_expiry, store_fault_of_log, store_fault_of_then, Ends, faults_before, faults_behind}
+use Rattle.broker_model.specs.Shards.{Counts, PartCall, Shards, ShardCall, StepsHosted, StepsPart, StepsShards, faults_met, failures_in, log_faults_met, result_of, state_faults_met, store_fault_of_ack, store_fault_of_delete, store_fault_of_expiry, store_fault_of_log, store_fault_of_then, Ends, faults_before, faults_behind}
 use Rattle.broker_model.specs.Shards.ShardCall.{CallForeign, CallPart, CallMembers}
-use Rattle.broker_model.specs.Shards.PartCall.{Visits, Produces, Looks, Expires}
+use Rattle.broker_model.specs.Shards.PartCall.{Visits, Produces, Looks, Expires, Deletes}
 use Rattle.broker_model.specs.Machine.{Machine}
 use Rattle.broker_model.specs.Steps.{IsRestart, StepsTo}
 use Rattle.broker_model.specs.Disks.{Covers}
@@ -62,11 +65,18 @@ module _ (a b : ℕ) (le : a ≤ b) where
   foreign_met end old new op answer (Some (Full at)) step = covers_none a b le
 
   log_met : (end : ℕ) (old new : LogShardState) (batch : List ℕ) (produced : Produced)
-      → StepsLog (Rose a b) end old batch (result_of produced) new → Covers a b (faults_met (store_fault_of_log produced))
+      → StepsLog (Rose a b) end old batch (base_in (result_of produced)) new → Covers a b (faults_met (store_fault_of_log produced))
   log_met end old new batch (Base base) step = covers_none a b le
   log_met end old new batch (Batch fault) step = covers_none a b le
   log_met end old new batch (Store Device) step = covers_one a b step.0
   log_met end old new batch (Store (Full at)) step = covers_none a b le
+
+  delete_met : (end : ℕ) (old new : PartShardState) (to : ℤ) (answer : DeleteAnswer) → DeletesPart (Rose a b) end old to answer new
+      → Covers a b (faults_met (store_fault_of_delete answer))
+  delete_met end old new to (Deleted start) does = covers_none a b le
+  delete_met end old new to (OutOfRange at) does = covers_none a b le
+  delete_met end old new to (delete_store Device) does = covers_one a b does.2.0
+  delete_met end old new to (delete_store (Full at)) does = covers_none a b le
 
   module _ (conf : PartConfParts) (end : ℕ) (old new : PartShardState) where
     acts_met : (group : List ℕ) (acts : ShareActs) (fault : Option StoreFault) → StoresActs conf (Rose a b) end old group acts new fault → Covers a b (faults_met fault)
@@ -188,6 +198,10 @@ module _ (counts : Counts) (ends : Ends) where
         met_on (state_store h) (log_store h) (state_faults_met (Expires answer)) 0
         (λ le. groups_met h.conf _ _ _ _ _ 0 _ answer new step.groups)
         (λ le. covers_none (counts (log_of h)).0 (counts (log_of h)).1 le)
+    part_met now h old new shard (Deletes to answer) step =
+        met_on (state_store h) (log_store h) 0 (log_faults_met (Deletes to answer))
+        (λ le. covers_none (faults_before counts (state_store h)) (faults_behind counts (state_store h)) le)
+        (λ le. delete_met (counts (log_of h)).0 (counts (log_of h)).1 le (ends (log_of h)).0 old new to answer step.does)
 
     did_counts : (now : ℕ) (old new : Shards) (did : ShardCall) → StepsShards counts ends now old did new → CoversAt store (failures_in store (Some did))
     did_counts now old new (CallForeign op answer fault) step =

@@ -20,6 +20,7 @@ use Rattle.broker_model.proofs.Chains.{run_parts}
 use Rattle.broker_model.proofs.Exclusive.{exclusive}
 use Rattle.broker_model.proofs.Taken.{all_taken}
 use Rattle.broker_model.proofs.Passing.{passes_closed}
+use Rattle.broker_model.proofs.Ungranted.{run_ungranted}
 use Rattle.broker_model.proofs.Fails.{covers_both, step_counts}
 use Rattle.broker_model.proofs.Quiets.{all_told}
 use Rattle.broker_model.proofs.Stores.{has_first, has_second, same_self, store_taken}
@@ -281,6 +282,7 @@ module _ (conf : ConfigParts) (first last : State) (steps : List Step) (run : Is
         };
         stores = λ store is. record { covered = (covered conf store is first last steps run).1; fails = fails store is };
         exclusive = exclusive conf first last steps run;
+        deleted = run_ungranted conf first last steps run;
         starts = passes_closed conf first last steps run;
         taken = all_taken conf first last steps run;
       }

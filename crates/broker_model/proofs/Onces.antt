@@ -1,11 +1,10 @@
 -- What a call on a partition that meets no fault answers and leaves is one.
-use Rattle.std.proofs.Common.{◌≡◌, ◌<◌, ◌+◌, ◌-◌, inl, inr, refl, sym, ap, ◌∙◌, subst, arith, ℕ, zero, suc, pos, List, [], ◌∷◌, ◌++◌, Bool, true, false, Option, Some, None, if◌then◌else◌}
+use Rattle.std.proofs.Common.{◌≡◌, ◌<◌, ◌+◌, ◌-◌, inl, inr, refl, sym, ap, ◌∙◌, subst, arith, ℕ, ℤ, zero, suc, pos, List, [], ◌∷◌, ◌++◌, Bool, true, false, Option, Some, None, if◌then◌else◌}
 use Rattle.std.proofs.lemmas.Bool.Decides.{nat_tests}
 use Rattle.std.proofs.lemmas.Bool.{true≢false}
-use Rattle.std.specs.Prelude.{IsSome, is_some, nat_eq, nat_lt, ◌&&◌}
+use Rattle.std.specs.Prelude.{◌⊎◌, IfOk, IsSome, is_some, nat_eq, nat_lt, ◌&&◌}
 use Rattle.std.specs.BTreeMap.{insert_entry}
 use Rattle.edge_io.specs.Causes.{Rose}
-use Rattle.ack_ranges.specs.Batches.{kind_at}
 use Rattle.ack_ranges.proofs.Faults.{no_fault, one_fault}
 use Rattle.rec_batch.proofs.OneFault.{one_first_fault}
 use Rattle.rec_batch.specs.declared.form.Form.TheVariants.{Produced as ProducedForm}
@@ -16,6 +15,9 @@ use Rattle.share_model.specs.Logs.{Batch as LogBatch}
 use Rattle.share_model.specs.ForeignRules.{ShareStates}
 use Rattle.share_model.specs.ShareStates.{ShareState}
 use Rattle.share_model.specs.declared.ack.AckFault.{AckFault}
+use Rattle.share_model.specs.declared.delete.DeleteAnswer.{DeleteAnswer}
+use Rattle.share_model.specs.declared.delete.DeleteAnswer.TheVariants.{Done as Deleted, OutOfRange, Store as delete_store}
+use Rattle.share_model.specs.declared.delete.Placed.{Placed}
 use Rattle.share_model.specs.declared.fault.BatchFault.{BatchFault}
 use Rattle.share_model.specs.declared.hold.Grant.{Grant}
 use Rattle.share_model.specs.declared.row.Row.{Row}
@@ -30,13 +32,16 @@ use Rattle.share_model.specs.declared.visit.ThenOutcome.TheVariants.{Done as fol
 use Rattle.share_model.specs.declared.visit.Visit.{Visit}
 use Rattle.share_model.specs.declared.visit.VisitAnswer.{VisitAnswer}
 use Rattle.share_model.proofs.OneList.{one_list}
-use Rattle.part_log.specs.Shards.{LogShardState, StepsLog, log_at}
+use Rattle.part_log.specs.Shards.{LogShardState, Raises, StepsLog, log_at}
+use Rattle.part_log.specs.Starts.{Log}
 use Rattle.share_part.specs.Acknowledging.{Acknowledges, AreSettled, StoresActs}
+use Rattle.share_part.specs.Deleting.{Deletes as DeletesPart, DeletesBelow, DeletesNothing, IsRaisedTo, StepsDelete, target_of}
 use Rattle.share_part.specs.Expiring.{StepsGroups, due_count, ending, more_freed}
 use Rattle.share_part.specs.Following.{Acquires, Does, Fetches, FetchesFirst, Follows, MakesTable, Reading, fault_of, releases_of}
 use Rattle.share_part.specs.Hosting.{PartConfParts, key_of}
+use Rattle.share_part.specs.Named.{named_from}
 use Rattle.share_part.specs.Settling.{Acts, IsLeastMissing, IsNextStart, IsSettled, stored_after}
-use Rattle.share_part.specs.Shards.{PartShardState, StepsProduce, new_state, raised_to, with_held}
+use Rattle.share_part.specs.Shards.{IsStill, PartShardState, StepsProduce, base_in, new_state, raised_to, with_held}
 use Rattle.share_part.specs.Tables.{Table, table_of, with_holds}
 use Rattle.share_part.specs.Visits.{StepsVisit}
 use Rattle.share_part.specs.Walks.{AreApart, AreRunsOf, FollowsGrant, acquired, offsets_with, written_out}
@@ -44,8 +49,8 @@ use Rattle.share_part.specs.declared.limits.Limits.{Limits}
 use Rattle.call_fold.specs.declared.part.Produced.{Produced}
 use Rattle.call_fold.specs.declared.part.Produced.TheVariants.{Base, Batch, Store}
 use Rattle.broker_model.specs.Hosted.{Hosted}
-use Rattle.broker_model.specs.Shards.{Counts, PartCall, StepsPart, result_of, store_fault_of_ack, store_fault_of_expiry, store_fault_of_log, store_fault_of_then, Ends}
-use Rattle.broker_model.specs.Shards.PartCall.{Visits, Produces, Looks, Expires}
+use Rattle.broker_model.specs.Shards.{Counts, PartCall, StepsPart, result_of, store_fault_of_ack, store_fault_of_delete, store_fault_of_expiry, store_fault_of_log, store_fault_of_then, Ends}
+use Rattle.broker_model.specs.Shards.PartCall.{Visits, Produces, Looks, Expires, Deletes}
 use Rattle.broker_model.specs.Alike.{PartMetNoFault}
 use Rattle.broker_model.proofs.Lists.{none_not, some_same}
 
@@ -176,7 +181,7 @@ module _ (conf : PartConfParts) (rose also : Type 0) (end at : ℕ) (a : PartSha
 
   acks_once : (ack told : AckOutcome) → store_fault_of_ack ack ≡ None → store_fault_of_ack told ≡ None → Acknowledges conf rose end a visit one ack
       → Acknowledges conf also at a visit other told → Acked ack told
-  acks_once acknowledged acknowledged n m p q = (refl, stores_once conf rose also end at a visit.group (kind_at visit.acks) one other p.1 q.1)
+  acks_once acknowledged acknowledged n m p q = (refl, stores_once conf rose also end at a visit.group (named_from a.log.start visit.acks) one other p.1 q.1)
   acks_once acknowledged (Malformed fault) n m p q = absurd (no_fault visit.acks fault q.0 p.0.0)
   acks_once acknowledged (NotHeld offset) n m p q = absurd (q.1.missing (p.0.1 offset q.1.named))
   acks_once (Malformed fault) acknowledged n m p q = absurd (no_fault visit.acks fault p.0 q.0.0)
@@ -188,7 +193,7 @@ module _ (conf : PartConfParts) (rose also : Type 0) (end at : ℕ) (a : PartSha
   acks_once (NotHeld offset) acknowledged n m p q = absurd (p.1.missing (q.0.1 offset p.1.named))
   acks_once (NotHeld offset) (Malformed fault) n m p q = absurd (no_fault visit.acks fault q.0 p.0)
   acks_once (NotHeld offset) (NotHeld more) n m p q = (
-    ap (λ (o : ℕ). NotHeld o) (least_once visit.member (kind_at visit.acks) (a.held visit.group) offset more p.1 q.1),
+    ap (λ (o : ℕ). NotHeld o) (least_once visit.member (named_from a.log.start visit.acks) (a.held visit.group) offset more p.1 q.1),
     record { states = p.2.states ∙ sym q.2.states; pending = p.2.pending ∙ sym q.2.pending; held = p.2.held ∙ sym q.2.held },
   )
   acks_once acknowledged (ack_store fault) n m p q = absurd (none_not fault (sym m))
@@ -329,31 +334,89 @@ groups_once conf c l e x d m f y (group ∷ groups) freed a one other answer tol
 
 -- ---- a batch
 
-log_once : (rose also : Type 0) (end there : ℕ) (old one other : LogShardState) (batch : List ℕ) (produced told : Produced) → store_fault_of_log produced ≡ None
-    → store_fault_of_log told ≡ None → StepsLog rose end old batch (result_of produced) one → StepsLog also there old batch (result_of told) other
-    → (produced ≡ told) × (one ≡ other)
-log_once rose also end there old one other batch (Base base) (Base more) n m p q = (
-  ap (λ (b : ℕ). Base b) (p.base_is ∙ sym q.base_is),
+abbrev TellsStart : ℕ → Produced → Type 0
+TellsStart start produced = IfOk (result_of produced) (λ (at : Placed). at.start ≡ start)
+
+log_once : (rose also : Type 0) (end there : ℕ) (old one other : LogShardState) (batch : List ℕ) (produced told : Produced) (start : ℕ) → store_fault_of_log produced ≡ None
+    → store_fault_of_log told ≡ None → StepsLog rose end old batch (base_in (result_of produced)) one → StepsLog also there old batch (base_in (result_of told)) other
+    → TellsStart start produced → TellsStart start told → (produced ≡ told) × (one ≡ other)
+log_once rose also end there old one other batch (Base at) (Base more) start n m p q s t = (
+  λ i. Base (record { base = (p.base_is ∙ sym q.base_is) i; start = (s ∙ sym t) i }),
   λ i. record { batches = (p.batches ∙ sym q.batches) i; start = (p.start ∙ sym q.start) i; pending = (p.nothing ∙ sym q.nothing) i },
 )
-log_once rose also end there old one other batch (Base base) (Batch fault) n m p q = absurd (p.form fault q.0)
-log_once rose also end there old one other batch (Base base) (Store fault) n m p q = absurd (none_not fault (sym m))
-log_once rose also end there old one other batch (Batch fault) (Base base) n m p q = absurd (q.form fault p.0)
-log_once rose also end there old one other batch (Batch fault) (Batch more) n m p q =
+log_once rose also end there old one other batch (Base at) (Batch fault) start n m p q s t = absurd (p.form fault q.0)
+log_once rose also end there old one other batch (Base at) (Store fault) start n m p q s t = absurd (none_not fault (sym m))
+log_once rose also end there old one other batch (Batch fault) (Base at) start n m p q s t = absurd (q.form fault p.0)
+log_once rose also end there old one other batch (Batch fault) (Batch more) start n m p q s t =
     (ap (λ (f : BatchFault). Batch f) (one_first_fault ProducedForm batch fault more p.0 q.0), p.1 ∙ sym q.1)
-log_once rose also end there old one other batch (Batch fault) (Store more) n m p q = absurd (none_not more (sym m))
-log_once rose also end there old one other batch (Store fault) told n m p q = absurd (none_not fault (sym n))
+log_once rose also end there old one other batch (Batch fault) (Store more) start n m p q s t = absurd (none_not more (sym m))
+log_once rose also end there old one other batch (Store fault) told start n m p q s t = absurd (none_not fault (sym n))
 
 produce_once : (rose also : Type 0) (end there : ℕ) (a one other : PartShardState) (now : ℕ) (batch : List ℕ) (produced told : Produced)
     → store_fault_of_log produced ≡ None → store_fault_of_log told ≡ None → StepsProduce rose end a now batch (result_of produced) one
     → StepsProduce also there a now batch (result_of told) other → Once produced told one other
 produce_once rose also end there a one other now batch produced told none nothing p q =
-    let l = log_once rose also end there a.log one.log other.log batch produced told none nothing p.log q.log in (
+    let l = log_once rose also end there a.log one.log other.log batch produced told a.log.start none nothing p.log q.log p.start q.start in (
       l.0,
       same_shards one other
           (record { states = p.still.states ∙ sym q.still.states; pending = p.still.pending ∙ sym q.still.pending; held = p.still.held ∙ sym q.still.held })
           l.1 (p.clock ∙ sym q.clock),
     )
+
+-- ---- a delete
+
+-- the offset is one
+one_target : (log : Log) (to : ℤ) (a b : ℕ) → target_of log to ≡ Some a → target_of log to ≡ Some b → a ≡ b
+one_target log to a b p q = some_same a b (sym p ∙ q)
+
+module _ (rose also : Type 0) (end there : ℕ) (a one other : PartShardState) (to : ℤ) where
+  abbrev IsOne : DeleteAnswer → DeleteAnswer → Type 0
+  IsOne answer told = (answer ≡ told) × (one.log ≡ other.log) × IsSame one other
+
+  still_one : IsStill a one → IsStill a other → IsSame one other
+  still_one p q = record { states = p.states ∙ sym q.states; pending = p.pending ∙ sym q.pending; held = p.held ∙ sym q.held }
+
+  raised_one : (target : ℕ) → IsRaisedTo target a one → IsRaisedTo target a other → IsSame one other
+  raised_one target p q = record {
+    states = p.states ∙ sym q.states;
+    pending = p.pending ∙ sym q.pending;
+    held = λ i group. (p.held group ∙ sym (q.held group)) i;
+  }
+
+  log_raised : (target : ℕ) → Raises end a.log target one.log → Raises there a.log target other.log → one.log ≡ other.log
+  log_raised target p q = λ i. record {
+    batches = (p.batches ∙ sym q.batches) i;
+    start = (p.start_is ∙ sym q.start_is) i;
+    pending = (p.nothing ∙ sym q.nothing) i;
+  }
+
+  done_one : (target start more : ℕ) → DeletesNothing a target start one ⊎ DeletesBelow end a target start one
+      → DeletesNothing a target more other ⊎ DeletesBelow there a target more other → IsOne (Deleted start) (Deleted more)
+  done_one target start more (inl p) (inl q) =
+      (ap (λ (n : ℕ). Deleted n) (p.start_is ∙ sym q.start_is), p.log ∙ sym q.log, still_one p.still q.still)
+  done_one target start more (inl p) (inr q) = let clash : ⊥ = omega (arith, p.gone, q.log.allowed.above) in absurd clash
+  done_one target start more (inr p) (inl q) = let clash : ⊥ = omega (arith, q.gone, p.log.allowed.above) in absurd clash
+  done_one target start more (inr p) (inr q) =
+      (ap (λ (n : ℕ). Deleted n) (p.start_is ∙ sym q.start_is), log_raised target p.log q.log, raised_one target p.tables q.tables)
+
+  does_one : (answer told : DeleteAnswer) → store_fault_of_delete answer ≡ None → store_fault_of_delete told ≡ None
+      → DeletesPart rose end a to answer one → DeletesPart also there a to told other → IsOne answer told
+  does_one (Deleted start) (Deleted more) n m p q =
+      done_one p.0 start more p.2 (subst (λ (t : ℕ). DeletesNothing a t more other ⊎ DeletesBelow there a t more other)
+      (one_target (log_at a.log) to q.0 p.0 q.1 p.1) q.2)
+  does_one (Deleted start) (OutOfRange at) n m p q = absurd (none_not p.0 (sym q.0 ∙ p.1))
+  does_one (Deleted start) (delete_store fault) n m p q = absurd (none_not fault (sym m))
+  does_one (OutOfRange at) (Deleted start) n m p q = absurd (none_not q.0 (sym p.0 ∙ q.1))
+  does_one (OutOfRange at) (OutOfRange more) n m p q = (ap (λ (e : ℕ). OutOfRange e) (p.1 ∙ sym q.1), p.2 ∙ sym q.2, still_one p.3 q.3)
+  does_one (OutOfRange at) (delete_store fault) n m p q = absurd (none_not fault (sym m))
+  does_one (delete_store fault) told n m p q = absurd (none_not fault (sym n))
+
+delete_once : (rose also : Type 0) (end there : ℕ) (a one other : PartShardState) (now : ℕ) (to : ℤ) (answer told : DeleteAnswer)
+    → store_fault_of_delete answer ≡ None → store_fault_of_delete told ≡ None → StepsDelete rose end a now to answer one
+    → StepsDelete also there a now to told other → Once answer told one other
+delete_once rose also end there a one other now to answer told none nothing p q =
+    let d = does_one rose also end there a one other to answer told none nothing p.does q.does in
+    (d.0, same_shards one other d.2 d.1 (p.clock ∙ sym q.clock))
 
 -- ---- a call on a partition
 
@@ -363,6 +426,7 @@ AskSame (Visits visit answer unread) (Visits other told missed) = visit ≡ othe
 AskSame (Produces batch produced) (Produces other told) = batch ≡ other
 AskSame (Looks group looked) (Looks other told) = group ≡ other
 AskSame (Expires answer) (Expires told) = Unit {0}
+AskSame (Deletes to answer) (Deletes at told) = to ≡ at
 AskSame did done = ⊥
 
 module _ (counts also : Counts) (ends there : Ends) (now : ℕ) (h : Hosted) (a one other : PartShardState) where
@@ -382,4 +446,8 @@ module _ (counts also : Counts) (ends there : Ends) (now : ℕ) (h : Hosted) (a 
   part_once (Expires answer) (Expires told) same none nothing p q =
       let r = groups_once h.conf _ _ _ _ _ _ _ _ _ 0 (raised_to now a) one other answer told none nothing p.groups q.groups in
       ((λ i. Expires (r.0 i)), r.1)
+  part_once (Deletes to answer) (Deletes at told) same none nothing p q =
+      let r = delete_once _ _ _ _ a one other now at answer told none nothing
+      (subst (λ (z : ℤ). StepsPart true counts ends now h a (Deletes z answer) one) same p) q in
+      ((λ i. Deletes (same i) (r.0 i)), r.1)
   part_once did done same none nothing p q = absurd same

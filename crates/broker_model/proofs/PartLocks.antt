@@ -1,15 +1,16 @@
 -- Of the locks of one partition over what is done to it.
-use Rattle.std.proofs.Common.{◌≡◌, ◌⊎◌, ◌≤◌, ◌+◌, inl, inr, ⊎_elim, refl, sym, ap, ◌∙◌, subst, arith, max, ℕ, List, [], ◌∷◌, ◌++◌, Bool, true, false, Option, Some, None}
+use Rattle.std.proofs.Common.{◌≡◌, ◌⊎◌, ◌<◌, ◌≤◌, ◌+◌, inl, inr, ⊎_elim, refl, sym, ap, ◌∙◌, subst, arith, max, ℕ, ℤ, List, [], ◌∷◌, ◌++◌, Bool, true, false, Option, Some, None}
 use Rattle.std.proofs.lemmas.Bool.Decides.{nat_tests}
 use Rattle.std.specs.Prelude.{IsSome, nat_le}
 use Rattle.std.specs.List.{Contains}
 use Rattle.edge_io.specs.Causes.{Rose}
-use Rattle.ack_ranges.specs.Batches.{kind_at}
-use Rattle.share_model.specs.ForeignRules.{share_state_at}
+use Rattle.share_model.specs.ForeignRules.{share_state_at, size_of}
 use Rattle.share_model.specs.Held.{Held, hold_at}
 use Rattle.part_log.specs.Shards.{log_at}
 use Rattle.share_model.specs.ShareStates.{ShareState}
 use Rattle.share_model.specs.declared.ack.AckKind.{AckKind}
+use Rattle.share_model.specs.declared.delete.DeleteAnswer.{DeleteAnswer}
+use Rattle.share_model.specs.declared.delete.DeleteAnswer.TheVariants.{Done as Deleted, OutOfRange, Store as delete_store}
 use Rattle.share_model.specs.declared.fault.StoreFault.TheVariants.{Device, Full}
 use Rattle.share_model.specs.declared.hold.Grant.{Grant}
 use Rattle.share_model.specs.declared.hold.Hold.{Hold}
@@ -25,7 +26,9 @@ use Rattle.share_model.specs.declared.visit.VisitAnswer.{VisitAnswer}
 use Rattle.share_part.specs.Acknowledging.{Acknowledges}
 use Rattle.share_part.specs.Expiring.{StepsGroups, ending}
 use Rattle.share_part.specs.Following.{Acquires, Does, Fetches, Follows, MakesTable, fault_of, releases_of}
+use Rattle.share_part.specs.Deleting.{Deletes as DeletesPart, DeletesBelow, DeletesNothing}
 use Rattle.share_part.specs.Hosting.{PartConfParts, key_of}
+use Rattle.share_part.specs.Named.{named_from}
 use Rattle.share_part.specs.Settling.{IsHeldBy, is_chosen, release_of, releases_if, releasing}
 use Rattle.share_part.specs.Shards.{PartShardState, new_state, raised_to}
 use Rattle.share_part.specs.Tables.{table_of, with_holds}
@@ -33,11 +36,12 @@ use Rattle.share_part.specs.Walks.{acquired}
 use Rattle.share_part.specs.declared.limits.Limits.{Limits}
 use Rattle.share_part.specs.declared.settle.Whose.TheVariants.{Member, Due}
 use Rattle.broker_model.specs.Hosted.{Hosted}
-use Rattle.broker_model.specs.Shards.PartCall.{Visits, Produces, Looks, Expires}
+use Rattle.broker_model.specs.Shards.PartCall.{Visits, Produces, Looks, Expires, Deletes}
 use Rattle.broker_model.specs.PartHistory.{IsPartHistory, PartAct, PartStep, StepsAlone}
 use Rattle.broker_model.specs.PartHistory.PartAct.{Called, NothingDone}
 use Rattle.broker_model.specs.Locks.{Grants, IsActedOnBy, IsExpiredIn, IsGranted, IsReleasedBy, KeepsLocksExclusive, LetsGo}
-use Rattle.broker_model.proofs.Holding.{EndsHold, IsMine, granted_taken, group_is, hold_in, holds_other, its_held, mine_taken, one_of_two, stores_hold, taken_unheld}
+use Rattle.broker_model.proofs.Above.{IsFrom, acks_above, batch_above, delete_above, deleted_from, follows_above, groups_above, hold_from, lt_or_le, new_above}
+use Rattle.broker_model.proofs.Holding.{EndsHold, IsFree, IsMine, granted_taken, group_is, hold_in, holds_other, its_held, mine_taken, one_of_two, stores_hold, taken_free, taken_unheld}
 use Rattle.broker_model.proofs.Lists.{IsOf, contains_front, contains_rest, none_not, of_all, of_contains}
 
 -- ---- what is released
@@ -119,6 +123,31 @@ module _ (conf : PartConfParts) (told : Bool) (rose : Type 0) (end : ℕ) (a : P
   fetches_grant None p o g is low high = made_grant answer.then p o g is low high
   fetches_grant (Some state) p o g is low high = acquires_grant state p.acquires o g is low high
 
+  -- nor does it lie below the start of its table
+  acquires_from : (state : ShareState) → Acquires conf told a state visit limits answer b → (o : ℕ) (g : Grant) → IsOf answer.grants g → g.first ≤ o → o ≤ g.last
+      → size_of state.start ≤ o
+  acquires_from state p o g is low high =
+      let there = granted_taken o (taken state) answer.grants g is low high p.grants in
+      (of_all (IsFree a.log.batches (table_of state (a.held visit.group))) (taken state) (o, g.count)
+      (taken_free a.log.batches (table_of state (a.held visit.group)) limits) there).1
+
+  made_from : (n : ℕ) → IsFrom n a → (t : ThenOutcome) → MakesTable conf told rose end a visit limits answer b t → (o : ℕ) (g : Grant) → IsOf answer.grants g
+      → g.first ≤ o → o ≤ g.last → n ≤ o
+  made_from n f followed p o g is low high =
+      let start = new_above n conf a f in
+      let from = acquires_from (new_state conf (log_at a.log)) p.acquires o g is low high in
+      omega (arith, start, from)
+  made_from n f (then_store Device) p o g is low high = absurd (subst (λ (l : List Grant). IsOf l g) p.1.grants is)
+  made_from n f (then_store (Full place)) p o g is low high = absurd (subst (λ (l : List Grant). IsOf l g) p.1.grants is)
+
+  fetches_from : (n : ℕ) → IsFrom n a → (t : Option ShareState) → share_state_at a.states (key_of conf visit.group) ≡ t
+      → Fetches conf told rose end a visit limits answer b t → (o : ℕ) (g : Grant) → IsOf answer.grants g → g.first ≤ o → o ≤ g.last → n ≤ o
+  fetches_from n f None there p o g is low high = made_from n f answer.then p o g is low high
+  fetches_from n f (Some state) there p o g is low high =
+      let start = f.tables (key_of conf visit.group) state there in
+      let from = acquires_from state p.acquires o g is low high in
+      omega (arith, start, from)
+
 abbrev no_limits : Limits
 no_limits = record { records = 0; bytes = 0; first = true }
 
@@ -142,6 +171,18 @@ module _ (conf : PartConfParts) (told : Bool) (rose : Type 0) (end : ℕ) (a : P
       (no_limits, none_granted conf told rose end a visit no_limits answer b o g.grant p.empty.grants (of_contains answer.grants g.grant g.there))
   follows_grant unread false p o g = does_grant visit.then p o g
 
+  does_from : (n : ℕ) → IsFrom n a → (t : Then) → Does conf told rose end a visit answer b t → (o : ℕ) → IsGranted o answer.grants → n ≤ o
+  does_from n f Nothing p o g = absurd (subst (λ (l : List Grant). IsOf l g.grant) p.0.grants (of_contains answer.grants g.grant g.there))
+  does_from n f Release p o g = absurd (subst (λ (l : List Grant). IsOf l g.grant) p.0.grants (of_contains answer.grants g.grant g.there))
+  does_from n f (Fetch records bytes first) p o g =
+      fetches_from conf told rose end a visit (record { records = records; bytes = bytes; first = first }) answer b n f
+      (share_state_at a.states (key_of conf visit.group)) refl p o g.grant (of_contains answer.grants g.grant g.there) g.from g.to
+
+  follows_from : (n : ℕ) → IsFrom n a → (unread : Type 0) (failed : Bool) → Follows conf told unread rose end a visit answer b failed → (o : ℕ)
+      → IsGranted o answer.grants → n ≤ o
+  follows_from n f unread true p o g = absurd (subst (λ (l : List Grant). IsOf l g.grant) p.empty.grants (of_contains answer.grants g.grant g.there))
+  follows_from n f unread false p o g = does_from n f visit.then p o g
+
 -- ---- a lock
 
 -- the member holds the record until then
@@ -161,18 +202,33 @@ module _ (group : List ℕ) (o : ℕ) (member : List ℕ) (until : ℕ) where
   locked_so : (a b : PartShardState) → hold_in b group o ≡ hold_in a group o → Locked a → Locked b
   locked_so a b same l = record { hold = l.hold; at = same ∙ l.at; whose = l.whose; ends = l.ends }
 
+  -- nothing below an offset behind it is left
+  abbrev pub IsGone : PartShardState → Type 0
+  IsGone p = (n : ℕ) × (o < n) × IsFrom n p
+
+  -- the record is locked, or can't be granted any more
+  abbrev pub Kept : PartShardState → Type 0
+  Kept p = Locked p ⊎ IsGone p
+
+  abbrev Ends : PartStep → Type 0
+  Ends s = Goes s ⊎ IsGone s.after
+
+  as_end : (s : PartStep) → Locked s.after ⊎ Goes s → Locked s.after ⊎ Ends s
+  as_end s (inl l) = inl l
+  as_end s (inr e) = inr (inl e)
+
   -- ---- acknowledgements
 
   -- they leave it, or end it
   acks_lock : (s : PartStep) (visit : Visit) (answer : VisitAnswer) (unread : Bool) (conf : PartConfParts) (rose : Type 0)
       (end : ℕ) (a b : PartShardState) (ack : AckOutcome) → s.act ≡ Called (Visits visit answer unread) → answer.ack ≡ ack
-      → Acknowledges conf rose end a visit b ack → Locked a → Locked b ⊎ IsActedOnBy group o member s
-  acks_lock s visit answer unread conf rose end a b acknowledged is told p l = ⊎_elim
+      → Acknowledges conf rose end a visit b ack → a.log.start ≡ s.before.log.start → Locked a → Locked b ⊎ IsActedOnBy group o member s
+  acks_lock s visit answer unread conf rose end a b acknowledged is told p starts l = ⊎_elim
       (λ same. inl (locked_so a b same l))
       (λ e. inr (acted e))
-      (stores_hold conf rose end a visit.group (kind_at visit.acks) b None p.1 group o)
+      (stores_hold conf rose end a visit.group (named_from a.log.start visit.acks) b None p.1 group o)
     where
-      acted : EndsHold visit.group (kind_at visit.acks) None b group o → IsActedOnBy group o member s
+      acted : EndsHold visit.group (named_from a.log.start visit.acks) None b group o → IsActedOnBy group o member s
       acted e =
           let theirs = p.0.1 o (subst IsSome (sym e.named) refl) in
           let at : hold_at (a.held visit.group) o ≡ Some l.hold = ap (λ (g : List ℕ). hold_in a g o) e.group_is ∙ l.at in
@@ -184,16 +240,16 @@ module _ (group : List ℕ) (o : ℕ) (member : List ℕ) (until : ℕ) where
             stored = told;
             of_group = e.group_is;
             by_member = sym (subst (IsHeldBy visit.member) at theirs) ∙ l.whose;
-            named = subst IsSome (sym e.named) refl;
+            named = subst (λ (n : ℕ). IsSome (named_from n visit.acks o)) starts (subst IsSome (sym e.named) refl);
           }
-  acks_lock s visit answer unread conf rose end a b (Malformed fault) is told p l =
+  acks_lock s visit answer unread conf rose end a b (Malformed fault) is told p starts l =
       inl (locked_so a b (ap (λ (h : List ℕ → Held). hold_at (h group) o) p.1.held) l)
-  acks_lock s visit answer unread conf rose end a b (NotHeld offset) is told p l =
+  acks_lock s visit answer unread conf rose end a b (NotHeld offset) is told p starts l =
       inl (locked_so a b (ap (λ (h : List ℕ → Held). hold_at (h group) o) p.2.held) l)
-  acks_lock s visit answer unread conf rose end a b (ack_store fault) is told p l = ⊎_elim
+  acks_lock s visit answer unread conf rose end a b (ack_store fault) is told p starts l = ⊎_elim
       (λ same. inl (locked_so a b same l))
       (λ e. absurd (none_not fault (sym e.stored)))
-      (stores_hold conf rose end a visit.group (kind_at visit.acks) b (Some fault) p.1 group o)
+      (stores_hold conf rose end a visit.group (named_from a.log.start visit.acks) b (Some fault) p.1 group o)
 
   -- ---- what follows them
 
@@ -291,6 +347,9 @@ module _ (group : List ℕ) (o : ℕ) (member : List ℕ) (until : ℕ) where
     raised : (now : ℕ) → Locked s.before → Locked (raised_to now s.before)
     raised now l = record { hold = l.hold; at = l.at; whose = l.whose; ends = l.ends }
 
+    from_raised : (n now : ℕ) → IsFrom n s.before → IsFrom n (raised_to now s.before)
+    from_raised n now f = record { start = f.start; within = f.within; tables = f.tables }
+
     released_in : (visit : Visit) (answer : VisitAnswer) (unread : Bool) → s.act ≡ Called (Visits visit answer unread) → Locked s.before → FreesIt h.conf visit answer s.after
         → IsReleasedBy group o member s
     released_in visit answer unread is l f = record {
@@ -323,42 +382,84 @@ module _ (group : List ℕ) (o : ℕ) (member : List ℕ) (until : ℕ) where
           late = subst (λ (c : ℕ). until ≤ c) (sym clock) f.late;
         }
 
-    act_lock : (act : PartAct) → s.act ≡ act → StepsAlone h s.before act s.after → Locked s.before → Locked s.after ⊎ Goes s
-    act_lock (Called (Visits visit answer unread)) is p l = ⊎_elim
+    -- a delete leaves it, or nothing below the record's offset is left
+    delete_lock : (rose : Type 0) (end : ℕ) (a b : PartShardState) (to : ℤ) (answer : DeleteAnswer) → DeletesPart rose end a to answer b → Locked a
+        → Locked b ⊎ IsGone b
+    delete_lock rose end a b to (OutOfRange at) p l = inl (locked_so a b (ap (λ (k : List ℕ → Held). hold_at (k group) o) p.3.held) l)
+    delete_lock rose end a b to (delete_store fault) p l = inl (locked_so a b (ap (λ (k : List ℕ → Held). hold_at (k group) o) p.3.held) l)
+    delete_lock rose end a b to (Deleted start) p l = ⊎_elim
+        (λ (d : DeletesNothing a p.0 start b). inl (locked_so a b (ap (λ (k : List ℕ → Held). hold_at (k group) o) d.still.held) l))
+        (λ (d : DeletesBelow end a p.0 start b). below d (lt_or_le o p.0)) p.2
+      where
+        below : DeletesBelow end a p.0 start b → (o < p.0) ⊎ (p.0 ≤ o) → Locked b ⊎ IsGone b
+        below d (inl lt) = inr (p.0, lt, deleted_from end a b p.0 start d)
+        below d (inr from) = inl (locked_so a b (ap (λ (k : Held). hold_at k o) (d.tables.held group) ∙ hold_from p.0 (a.held group) o from) l)
+
+    act_lock : (act : PartAct) → s.act ≡ act → StepsAlone h s.before act s.after → Locked s.before → Locked s.after ⊎ Ends s
+    act_lock (Called (Visits visit answer unread)) is p l = as_end s (⊎_elim
         (λ locked. ⊎_elim (λ locked. inl locked) (λ f. inr (inr (inl (released_in visit answer unread is l f))))
         (follows_lock h.conf visit answer p.0 _ _ p.4.at p.4.between s.after unread p.4.does locked))
         (λ e. inr (inl e))
-        (acks_lock s visit answer unread h.conf _ _ s.before p.4.between answer.ack is refl p.4.acks.does l)
+        (acks_lock s visit answer unread h.conf _ _ s.before p.4.between answer.ack is refl p.4.acks.does refl l))
     act_lock (Called (Produces batch produced)) is p l =
         inl (locked_so s.before s.after (ap (λ (k : List ℕ → Held). hold_at (k group) o) p.4.still.held) l)
     act_lock (Called (Looks other looked)) is p l = inl (locked_so s.before s.after (ap (λ (z : PartShardState). hold_in z group o) p.4.1) l)
-    act_lock (Called (Expires answer)) is p l = expiry_lock p.3 _ _ _ _ _ answer is p.4.clock p.4.groups l
+    act_lock (Called (Expires answer)) is p l = as_end s (expiry_lock p.3 _ _ _ _ _ answer is p.4.clock p.4.groups l)
+    act_lock (Called (Deletes to answer)) is p l = ⊎_elim (λ locked. inl locked) (λ gone. inr (inr gone)) (delete_lock _ _ s.before s.after to answer p.4.does l)
     act_lock NothingDone is p l = inl (locked_so s.before s.after (ap (λ (z : PartShardState). hold_in z group o) p) l)
 
+    act_above : (n : ℕ) (act : PartAct) → StepsAlone h s.before act s.after → IsFrom n s.before → IsFrom n s.after
+    act_above n (Called (Visits visit answer unread)) p f =
+        follows_above n h.conf p.0 _ _ p.4.at p.4.between visit answer s.after unread p.4.does (p.4.log ∙ sym p.4.acks.log)
+        (acks_above n h.conf _ _ s.before visit p.4.between answer.ack p.4.acks.does p.4.acks.log f)
+    act_above n (Called (Produces batch produced)) p f = batch_above n _ _ s.before s.after batch produced p.4.log p.4.still.states f
+    act_above n (Called (Looks other looked)) p f = subst (IsFrom n) (sym p.4.1) f
+    act_above n (Called (Expires answer)) p f =
+        groups_above n h.conf _ _ _ _ _ 0 (raised_to p.3 s.before) answer s.after p.4.groups p.4.log (from_raised n p.3 f)
+    act_above n (Called (Deletes to answer)) p f = delete_above n _ _ s.before s.after to answer p.4.does f
+    act_above n NothingDone p f = subst (IsFrom n) (sym p) f
+
     module _ (step : StepsAlone h s.before s.act s.after) where
-      pub step_lock : Locked s.before → Locked s.after ⊎ Goes s
-      step_lock l = act_lock s.act refl step l
+      pub step_above : (n : ℕ) → IsFrom n s.before → IsFrom n s.after
+      step_above n f = act_above n s.act step f
+
+      pub step_lock : Kept s.before → Kept s.after ⊎ Goes s
+      step_lock (inl l) = ⊎_elim
+          (λ locked. inl (inl locked))
+          (λ ends. ⊎_elim (λ e. inr e) (λ gone. inl (inr gone)) ends)
+          (act_lock s.act refl step l)
+      step_lock (inr gone) = inl (inr (gone.0, gone.1, act_above gone.0 s.act step gone.2))
 
       visited : (visit : Visit) (answer : VisitAnswer) (unread : Bool) → s.act ≡ Called (Visits visit answer unread)
           → StepsAlone h s.before (Called (Visits visit answer unread)) s.after
       visited visit answer unread is = subst (λ (a : PartAct). StepsAlone h s.before a s.after) is step
 
       -- a record that is granted is locked
-      pub grant_lock : Grants h.conf group o member until s → Locked s.after
+      pub grant_lock : Grants h.conf group o member until s → Kept s.after
       grant_lock g =
           let v = visited g.visit g.answer g.unread g.act in
           let p = v.4 in
           let n = (follows_grant h.conf v.0 _ p.at p.between g.visit g.answer s.after _ g.unread p.does o g.granted).1 in
-          record {
+          inl (record {
             hold = record { member = g.visit.member; end = s.after.clock + h.conf.lock_ms; count = n.count };
             at = ap (λ (k : List ℕ). hold_in s.after k o) (sym g.of_group) ∙ n.is;
             whose = g.to_member;
             ends = sym g.until;
-          }
+          })
+
+      -- no record below the start of each table is
+      pub grant_from : (n : ℕ) (other : List ℕ) (late : ℕ) → Grants h.conf group o other late s → IsFrom n s.before → n ≤ o
+      grant_from n other late g f =
+          let v = visited g.visit g.answer g.unread g.act in
+          let p = v.4 in
+          follows_from h.conf v.0 _ p.at p.between g.visit g.answer s.after n
+          (acks_above n h.conf _ _ s.before g.visit p.between g.answer.ack p.acks.does p.acks.log f) _ g.unread p.does o g.granted
 
       -- it isn't granted again before the lock has ended
-      pub grant_ends : (other : List ℕ) (late : ℕ) → Grants h.conf group o other late s → Locked s.before → Goes s
-      grant_ends other late g l =
+      pub grant_ends : (other : List ℕ) (late : ℕ) → Grants h.conf group o other late s → Kept s.before → Goes s
+      grant_ends other late g (inr gone) =
+          let from = grant_from gone.0 other late g gone.2 in let low = gone.1 in let clash : ⊥ = omega (arith, from, low) in absurd clash
+      grant_ends other late g (inl l) =
           let v = visited g.visit g.answer g.unread g.act in
           let p = v.4 in
           ⊎_elim
@@ -366,7 +467,7 @@ module _ (group : List ℕ) (o : ℕ) (member : List ℕ) (until : ℕ) where
           let n = (follows_grant h.conf v.0 _ p.at p.between g.visit g.answer s.after _ g.unread p.does o g.granted).1 in
           absurd (none_not locked.hold (sym n.was ∙ ap (λ (k : List ℕ). hold_in p.between k o) g.of_group ∙ locked.at)))
           (λ e. inl e)
-          (acks_lock s g.visit g.answer g.unread h.conf _ _ s.before p.between g.answer.ack g.act refl p.acks.does l)
+          (acks_lock s g.visit g.answer g.unread h.conf _ _ s.before p.between g.answer.ack g.act refl p.acks.does refl l)
 
   -- ---- a history
 
@@ -376,19 +477,19 @@ module _ (group : List ℕ) (o : ℕ) (member : List ℕ) (until : ℕ) where
       there : Contains steps u
       ends : Goes u
 
-    through : (first last : PartShardState) (between after : List PartStep) (t : PartStep) → IsPartHistory h first (between ++ (t ∷ after)) last → Locked first
+    through : (first last : PartShardState) (between after : List PartStep) (t : PartStep) → IsPartHistory h first (between ++ (t ∷ after)) last → Kept first
         → Grants h.conf group o other late t → EndsIn (between ++ t ∷ [])
     through first last [] after t run l g = record {
       u = t;
       there = contains_front t t [] refl;
-      ends = grant_ends h t run.1 other late g (subst Locked (sym run.0) l);
+      ends = grant_ends h t run.1 other late g (subst Kept (sym run.0) l);
     }
     through first last (u ∷ between) after t run l g = ⊎_elim
-        (λ (l : Locked u.after).
+        (λ (l : Kept u.after).
         let e = through u.after last between after t run.2 l g in
         record { u = e.u; there = contains_rest u e.u (between ++ t ∷ []) e.there; ends = e.ends })
         (λ e. record { u = u; there = contains_front u u (between ++ t ∷ []) refl; ends = e })
-        (step_lock h u run.1 (subst Locked (sym run.0) l))
+        (step_lock h u run.1 (subst Kept (sym run.0) l))
 
 history_parts : (h : Hosted) (first last : PartShardState) (front rest : List PartStep) → IsPartHistory h first (front ++ rest) last
     → (mid : PartShardState) × IsPartHistory h first front mid × IsPartHistory h mid rest last

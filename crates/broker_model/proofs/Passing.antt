@@ -1,15 +1,14 @@
 -- No start passes a record that isn't acknowledged or archived.
-use Rattle.std.proofs.Common.{◌≡◌, ◌≢◌, ◌⊎◌, ◌≤◌, ◌<◌, ◌+◌, inl, inr, ⊎_elim, refl, sym, ap, ◌∙◌, subst, arith, ℕ, List, [], ◌∷◌, ◌++◌, Bool, true, false, Option, Some, None, if◌then◌else◌}
+use Rattle.std.proofs.Common.{◌≡◌, ◌≢◌, ◌⊎◌, ◌≤◌, ◌<◌, ◌+◌, inl, inr, ⊎_elim, refl, sym, ap, ◌∙◌, subst, arith, ℕ, ℤ, List, [], ◌∷◌, ◌++◌, Bool, true, false, Option, Some, None, if◌then◌else◌}
 use Rattle.std.proofs.lemmas.Bool.Decides.{nat_tests}
 use Rattle.std.proofs.lemmas.Bool.{true≢false}
 use Rattle.std.specs.Prelude.{IsSome, nat_le, nat_lt}
-use Rattle.std.specs.Option.{option_or}
+use Rattle.std.specs.Option.{option_map, option_or}
 use Rattle.std.specs.BTreeMap.{insert_entry, is_at}
 use Rattle.std.specs.Cmp.Lexicographic.{slice_cmp}
 use Rattle.std.specs.List.{AllByRecursion, Contains}
 use Rattle.std.specs.Ordering.{nat_cmp}
 use Rattle.edge_io.specs.Causes.{Rose}
-use Rattle.ack_ranges.specs.Batches.{kind_at}
 use Rattle.share_model.specs.ForeignRules.{ShareStates, share_state_at, size_of}
 use Rattle.share_model.specs.Held.{Held, hold_at}
 use Rattle.share_model.specs.Keys.{KeyParts, key_cmp}
@@ -18,6 +17,8 @@ use Rattle.share_model.specs.Runs.{row_at}
 use Rattle.share_model.specs.ShareStates.{ShareState}
 use Rattle.share_model.specs.declared.ack.AckKind.{AckKind}
 use Rattle.share_model.specs.declared.ack.AckKind.TheVariants.{Release as ReleaseAct}
+use Rattle.share_model.specs.declared.delete.DeleteAnswer.{DeleteAnswer}
+use Rattle.share_model.specs.declared.delete.DeleteAnswer.TheVariants.{Done as Deleted, OutOfRange, Store as delete_store}
 use Rattle.share_model.specs.declared.fault.StoreFault.{StoreFault}
 use Rattle.share_model.specs.declared.fault.StoreFault.TheVariants.{Device, Full}
 use Rattle.share_model.specs.declared.hold.Hold.{Hold}
@@ -33,18 +34,22 @@ use Rattle.share_model.specs.declared.visit.Visit.{Visit}
 use Rattle.share_model.specs.declared.visit.VisitAnswer.{VisitAnswer}
 use Rattle.part_log.specs.Logs.{and_pending}
 use Rattle.part_log.specs.Shards.{LogShardState, StepsLog, log_at}
-use Rattle.part_log.specs.Starts.{Log, LogWrite, with_write}
+use Rattle.part_log.specs.Starts.{IsSlotOf, Log, LogWrite, with_write}
 use Rattle.part_log.specs.Starts.LogWrite.{Adds, Marks}
-use Rattle.part_log.proofs.Writes.{text_is_sound}
+use Rattle.part_log.proofs.Writes.{text_is_sound, text_within}
 use Rattle.part_log.proofs.Frames.{bounds}
 use Rattle.part_log.proofs.Rising.{end_from, end_more, rises_more}
+use Rattle.share_coord.specs.Raising.{raised, raised_states}
+use Rattle.share_coord.proofs.Raising.{raised_at}
 use Rattle.share_part.specs.Acknowledging.{Acknowledges, AreSettled, StoresActs}
+use Rattle.share_part.specs.Deleting.{Deletes as DeletesPart, DeletesBelow, DeletesNothing, IsRaisedTo}
 use Rattle.share_part.specs.Expiring.{StepsGroups, ending}
 use Rattle.share_part.specs.Following.{Does as DoesThen, Follows, Fetches, HasItsTable, MakesTable, fault_of, releases_of}
 use Rattle.share_part.specs.Hosting.{PartConfParts, key_of}
 use Rattle.share_part.specs.Leaving.{IsDoneOr}
+use Rattle.share_part.specs.Named.{named_from}
 use Rattle.share_part.specs.Settling.{Acts, AreHeldBy, IsHeldBy, IsSettled, act_row, is_chosen, is_closed, is_closed_state, release_of, releases_if, settled, stored_after}
-use Rattle.share_part.specs.Shards.{PartShardState, new_state, raised_to, with_new}
+use Rattle.share_part.specs.Shards.{PartShardState, base_in, new_state, raised_to, with_new}
 use Rattle.share_part.specs.Tables.{Table, table_of}
 use Rattle.share_part.specs.declared.limits.Limits.{Limits}
 use Rattle.share_part.specs.declared.settle.Whose.TheVariants.{Member, Due}
@@ -54,12 +59,15 @@ use Rattle.topic_conf.specs.Configs.{ConfigParts}
 use Rattle.broker_model.specs.Hosted.{Hosted, HoldsAt, state_store}
 use Rattle.broker_model.specs.Shards.{HostedPart, PartCall, StepsPart, result_of, faults_before, faults_behind}
 use Rattle.broker_model.specs.Shards.ShardCall.{CallPart}
-use Rattle.broker_model.specs.Shards.PartCall.{Visits, Produces, Looks, Expires}
+use Rattle.broker_model.specs.Shards.PartCall.{Visits, Produces, Looks, Expires, Deletes}
 use Rattle.broker_model.specs.Machine.{OpensPart}
-use Rattle.broker_model.specs.Locks.{Record}
-use Rattle.broker_model.specs.Starts.{Closes, Does, IsBelow, IsClosedRow, IsMadeBehind, IsWell, OpeningsAreWell, StartsPassClosedRecords, table_in}
+use Rattle.broker_model.specs.Locks.{Record, StartAbove}
+use Rattle.broker_model.specs.Starts.{BeginsWell, Closes, Does, IsBelow, IsClosedRow, IsMadeBehind, IsWell, OpeningsAreWell, StartsPassClosedRecords, table_in}
 use Rattle.broker_model.specs.Runs.{Step, IsRun}
 use Rattle.broker_model.specs.States.{State, counts_of, ends_of}
+use Rattle.broker_model.proofs.Above.{lt_or_le, raised_above}
+use Rattle.broker_model.proofs.Keepings.{lands_one, part_grows}
+use Rattle.broker_model.proofs.Raises.{below_raised, none_raised, passed_raised, pending_one}
 use Rattle.broker_model.proofs.PartLocks.{chosen_held}
 use Rattle.broker_model.proofs.Goes.{Goes, IsLostIn, came, parts_of, went}
 use Rattle.broker_model.proofs.Histories.{keys_exact, keys_total}
@@ -68,18 +76,6 @@ use Rattle.broker_model.proofs.Lists.{all_entry, contains_front, contains_rest, 
 use Rattle.broker_model.proofs.Maps.{set_found, set_other}
 
 -- ---- logs
-
-pub lt_or_le : (a b : ℕ) → (a < b) ⊎ (b ≤ a)
-lt_or_le a b = by_test (nat_lt a b) refl where
-  less : nat_lt a b ≡ true → a < b
-  less e = grind (arith, nat_tests)
-
-  more : nat_lt a b ≡ false → b ≤ a
-  more e = grind (arith, nat_tests)
-
-  by_test : (t : Bool) → nat_lt a b ≡ t → (a < b) ⊎ (b ≤ a)
-  by_test true e = inl (less e)
-  by_test false e = inr (more e)
 
 -- a slot is below the end
 pub slot_below : (e : ℕ) (log : List LogBatch) (o : ℕ) → RisesFrom e log → IsSlot log o → o < end_of log
@@ -127,9 +123,9 @@ before_it o old new is_log g slot = ⊎_elim
 log_stays : (old new : List LogBatch) → new ≡ old → LogGoes old new
 log_stays old new is = record { same_or_more = inl is; still = λ is_log. subst IsLog (sym is) is_log }
 
-log_goes : (rose : Type 0) (end : ℕ) (old new : LogShardState) (batch : List ℕ) (produced : Produced) → StepsLog rose end old batch (result_of produced) new
+log_goes : (rose : Type 0) (end : ℕ) (old new : LogShardState) (batch : List ℕ) (produced : Produced) → StepsLog rose end old batch (base_in (result_of produced)) new
     → LogGoes old.batches new.batches
-log_goes rose end old new batch (Base base) p = record {
+log_goes rose end old new batch (Base at) p = record {
   same_or_more = inr (_, p.batches);
   still = λ is_log. subst IsLog (sym p.batches)
       (rises_more 0 old.batches _ is_log (omega arith) p.follows.behind (bounds _ p.follows.stored).order);
@@ -140,6 +136,15 @@ log_goes rose end old new batch (Store (Full at)) p = log_stays old.batches new.
 
 log_same : (old new : PartShardState) → new.log ≡ old.log → LogGoes old.log.batches new.log.batches
 log_same old new is = log_stays old.log.batches new.log.batches (ap (λ (l : LogShardState). l.batches) is)
+
+log_deletes : (rose : Type 0) (end : ℕ) (old new : PartShardState) (to : ℤ) (answer : DeleteAnswer) → DeletesPart rose end old to answer new
+    → LogGoes old.log.batches new.log.batches
+log_deletes rose end old new to (OutOfRange at) p = log_same old new p.2
+log_deletes rose end old new to (Deleted start) p = ⊎_elim
+    (λ (d : DeletesNothing old p.0 start new). log_same old new d.log)
+    (λ (d : DeletesBelow end old p.0 start new). log_stays old.log.batches new.log.batches d.log.batches) p.2
+log_deletes rose end old new to (delete_store Device) p = log_stays old.log.batches new.log.batches p.2.1.batches
+log_deletes rose end old new to (delete_store (Full at)) p = log_same old new p.2.0
 
 landed_log : (log : Log) (pending : Option LogWrite) (new : Log) → IsDoneOr log (and_pending log pending) new
     → (new.batches ≡ log.batches) ⊎ ((b : LogBatch) × (new.batches ≡ log.batches ++ b ∷ []))
@@ -393,17 +398,17 @@ stores_none conf rose end a of acts b None (inr p) group none = ⊎_elim
 module _ (conf : PartConfParts) (rose : Type 0) (end : ℕ) (a : PartShardState) (visit : Visit) (b : PartShardState) where
   acks_hold_back : (ack : AckOutcome) → Acknowledges conf rose end a visit b ack → (group : List ℕ) (o : ℕ) (hold : Hold) → hold_in b group o ≡ Some hold
       → hold_in a group o ≡ Some hold
-  acks_hold_back acknowledged p group o hold at = hold_back conf rose end a visit.group (kind_at visit.acks) b None p.1 group o hold at
+  acks_hold_back acknowledged p group o hold at = hold_back conf rose end a visit.group (named_from a.log.start visit.acks) b None p.1 group o hold at
   acks_hold_back (Malformed fault) p group o hold at = same_hold a b p.1.held group o hold at
   acks_hold_back (NotHeld offset) p group o hold at = same_hold a b p.2.held group o hold at
-  acks_hold_back (ack_store fault) p group o hold at = hold_back conf rose end a visit.group (kind_at visit.acks) b (Some fault) p.1 group o hold at
+  acks_hold_back (ack_store fault) p group o hold at = hold_back conf rose end a visit.group (named_from a.log.start visit.acks) b (Some fault) p.1 group o hold at
 
   acks_none : (ack : AckOutcome) → Acknowledges conf rose end a visit b ack → (group : List ℕ) → table_at conf b.states group ≡ None
       → table_at conf a.states group ≡ None
-  acks_none acknowledged p group none = stores_none conf rose end a visit.group (kind_at visit.acks) b None p.1 group none
+  acks_none acknowledged p group none = stores_none conf rose end a visit.group (named_from a.log.start visit.acks) b None p.1 group none
   acks_none (Malformed fault) p group none = same_table conf a b p.1.states group none
   acks_none (NotHeld offset) p group none = same_table conf a b p.2.states group none
-  acks_none (ack_store fault) p group none = stores_none conf rose end a visit.group (kind_at visit.acks) b (Some fault) p.1 group none
+  acks_none (ack_store fault) p group none = stores_none conf rose end a visit.group (named_from a.log.start visit.acks) b (Some fault) p.1 group none
 
 released_kind : (chosen : Hold → Bool) (h : Option Hold) (kind : AckKind) → releases_if chosen h ≡ Some kind → kind ≡ ReleaseAct
 released_kind chosen None kind named = absurd (none_not kind named)
@@ -424,7 +429,7 @@ told_so (then_store fault) (inr some) = inr (ap (λ (f : StoreFault). then_store
 
 module _ (r : Record) (s : Step) (Reason : Type 0) (cause : Closes r s ⊎ IsMadeBehind r s → Reason) where
   module _ (x y : HostedPart) (was : entry_at r.shard (parts_of s.before) ≡ Some x) (is : entry_at r.shard (parts_of s.after) ≡ Some y)
-      (is_log : IsLog x.shard.log.batches) (slot : IsSlotYet r.offset x.shard.log.batches) where
+      (is_log : IsLog x.shard.log.batches) (slot : IsSlotYet r.offset x.shard.log.batches) (low : y.shard.log.start ≤ r.offset) where
     made_behind : table_in x r.group ≡ None → IsBelow r.offset (table_in y r.group) → Reason
     made_behind none below = cause (inr (record {
       none = entry_holds r.shard (λ (p : HostedPart). table_in p r.group ≡ None) (parts_of s.before) x was none;
@@ -441,7 +446,7 @@ module _ (r : Record) (s : Step) (Reason : Type 0) (cause : Closes r s ⊎ IsMad
           (subst (λ (h : Hosted). IsBelow r.offset (table_at h.conf y.shard.states r.group)) (sym also) below)
 
       closed_by : (did : PartCall) → s.call ≡ Some (CallPart r.shard hosted did) → (hold : Hold) (kind : AckKind) → hold_in x.shard r.group r.offset ≡ Some hold
-          → Does did y.shard.clock r.group r.offset hold kind → is_closed_state (settled hosted.conf.limit kind hold.count).state ≡ true → Reason
+          → Does did y.shard.log.start y.shard.clock r.group r.offset hold kind → is_closed_state (settled hosted.conf.limit kind hold.count).state ≡ true → Reason
       closed_by did call hold kind at does closed = cause (inl (record {
         hosted = hosted;
         did = did;
@@ -449,28 +454,29 @@ module _ (r : Record) (s : Step) (Reason : Type 0) (cause : Closes r s ⊎ IsMad
         kind = kind;
         call = call;
         held = entry_holds r.shard (λ (p : HostedPart). hold_at (p.shard.held r.group) r.offset ≡ Some hold) (parts_of s.before) x was at;
-        does = entry_holds r.shard (λ (p : HostedPart). Does did p.shard.clock r.group r.offset hold kind) (parts_of s.after) y is does;
+        does = entry_holds r.shard (λ (p : HostedPart). Does did p.shard.log.start p.shard.clock r.group r.offset hold kind) (parts_of s.after) y is does;
         closes = closed;
       }))
 
-      module _ (visit : Visit) (answer : VisitAnswer) (unread : Bool) (call : s.call ≡ Some (CallPart r.shard hosted (Visits visit answer unread))) where
-        acted_on : (answer.ack ≡ acknowledged) ⊎ (answer.ack ≡ ack_store Device) → AreHeldBy visit.member (kind_at visit.acks) (x.shard.held visit.group)
-            → visit.group ≡ r.group → IsClosedBy r.offset hosted.conf.limit (kind_at visit.acks) (x.shard.held visit.group) → Reason
+      module _ (visit : Visit) (answer : VisitAnswer) (unread : Bool) (call : s.call ≡ Some (CallPart r.shard hosted (Visits visit answer unread)))
+          (starts : y.shard.log.start ≡ x.shard.log.start) where
+        acted_on : (answer.ack ≡ acknowledged) ⊎ (answer.ack ≡ ack_store Device) → AreHeldBy visit.member (named_from x.shard.log.start visit.acks) (x.shard.held visit.group)
+            → visit.group ≡ r.group → IsClosedBy r.offset hosted.conf.limit (named_from x.shard.log.start visit.acks) (x.shard.held visit.group) → Reason
         acted_on told theirs one act =
             let member : act.hold.member ≡ visit.member =
             subst (IsHeldBy visit.member) act.at (theirs r.offset (subst IsSome (sym act.named) refl)) in
             closed_by (Visits visit answer unread) call act.hold act.kind (ap (λ (g : List ℕ). hold_in x.shard g r.offset) (sym one) ∙ act.at)
-            (one, member, inl (act.named, told)) act.closes
+            (one, member, inl (subst (λ (n : ℕ). named_from n visit.acks r.offset ≡ Some act.kind) (sym starts) act.named, told)) act.closes
 
         acks_keep : (rose : Type 0) (end : ℕ) (b : PartShardState) (ack : AckOutcome) → answer.ack ≡ ack → Acknowledges hosted.conf rose end x.shard visit b ack
             → Kept x.shard → Kept b
         acks_keep rose end b acknowledged told p k =
-            stored_so r.offset Reason hosted.conf r.group rose end x.shard visit.group (kind_at visit.acks) b None is_log slot
+            stored_so r.offset Reason hosted.conf r.group rose end x.shard visit.group (named_from x.shard.log.start visit.acks) b None is_log slot
             (λ f one act. acted_on (inl told) p.0.1 one act) p.1 k
         acks_keep rose end b (Malformed fault) told p k = still r.offset Reason hosted.conf r.group x.shard b p.1.states p.1.pending k
         acks_keep rose end b (NotHeld offset) told p k = still r.offset Reason hosted.conf r.group x.shard b p.2.states p.2.pending k
         acks_keep rose end b (ack_store fault) told p k =
-            stored_so r.offset Reason hosted.conf r.group rose end x.shard visit.group (kind_at visit.acks) b (Some fault) is_log slot
+            stored_so r.offset Reason hosted.conf r.group rose end x.shard visit.group (named_from x.shard.log.start visit.acks) b (Some fault) is_log slot
             (λ f one act. ⊎_elim
             (λ none. absurd (none_not fault (sym none)))
             (λ some. acted_on (inr (told ∙ ap (λ (e : StoreFault). ack_store e) (some_same fault Device some))) p.0.1 one act)
@@ -531,16 +537,48 @@ module _ (r : Record) (s : Step) (Reason : Type 0) (cause : Closes r s ⊎ IsMad
           (stored_so r.offset Reason hosted.conf r.group (Rose a p.1) end old group (ending old.clock (old.held group)) p.0 None log_of slot_of
           (λ f one act. expired old group ended one act) p.3.stores k)
 
+      -- a delete: the record doesn't lie below the new start
+      raised_keeps : (n : ℕ) → n ≤ r.offset → IsRaisedTo n x.shard y.shard → Kept x.shard → Kept y.shard
+      raised_keeps n le raises k = record {
+        now = λ passed. k.now (passed_raised n r.offset le (table_at hosted.conf x.shard.states r.group)
+            (subst (Passed r.offset) (table_raised x.shard.states)
+            (subst (λ (z : ShareStates). Passed r.offset (table_at hosted.conf z r.group)) raises.states passed)));
+        lost = λ found at passed.
+            let w = pending_one n x.shard.pending found (sym raises.pending ∙ at) in
+            ⊎_elim
+            (λ reason. inl reason)
+            (λ made. inr (
+              ap (λ (z : ShareStates). table_at hosted.conf z r.group) raises.states
+                  ∙ (table_raised x.shard.states ∙ none_raised n (table_at hosted.conf x.shard.states r.group) made.0),
+              subst (λ (z : ShareStates). IsBelow r.offset (table_at hosted.conf z r.group)) w.2
+                  (subst (IsBelow r.offset) (sym (table_raised w.0)) (below_raised n r.offset le (table_at hosted.conf w.0 r.group) made.1)),
+            ))
+            (k.lost w.0 w.1 (passed_raised n r.offset le (table_at hosted.conf w.0 r.group)
+            (subst (Passed r.offset) (table_raised w.0)
+            (subst (λ (z : ShareStates). Passed r.offset (table_at hosted.conf z r.group)) (sym w.2) passed))));
+      } where
+        table_raised : (states : ShareStates) → table_at hosted.conf (raised_states n states) r.group ≡ option_map (raised n) (table_at hosted.conf states r.group)
+        table_raised states = raised_at n states (key_of hosted.conf r.group)
+
+      delete_keeps : (rose : Type 0) (end : ℕ) (to : ℤ) (answer : DeleteAnswer) → DeletesPart rose end x.shard to answer y.shard → Kept x.shard → Kept y.shard
+      delete_keeps rose end to (OutOfRange at) p k = still r.offset Reason hosted.conf r.group x.shard y.shard p.3.states p.3.pending k
+      delete_keeps rose end to (delete_store fault) p k = still r.offset Reason hosted.conf r.group x.shard y.shard p.3.states p.3.pending k
+      delete_keeps rose end to (Deleted start) p k = ⊎_elim
+          (λ (d : DeletesNothing x.shard p.0 start y.shard). still r.offset Reason hosted.conf r.group x.shard y.shard d.still.states d.still.pending k)
+          (λ (d : DeletesBelow end x.shard p.0 start y.shard).
+          raised_keeps p.0 (let is = d.log.start_is in omega (arith, low, is)) d.tables k) p.2
+
       part_keeps : (now : ℕ) (did : PartCall) → s.call ≡ Some (CallPart r.shard hosted did)
           → StepsPart true (counts_of s.before s.after) (ends_of s.before s.after) now hosted x.shard did y.shard → Kept x.shard → Kept y.shard
       part_keeps now (Visits visit answer unread) call p k =
           let c = faults_before (counts_of s.before s.after) (state_store hosted) in
           let l = faults_behind (counts_of s.before s.after) (state_store hosted) in
           let same_log : p.between.log.batches ≡ x.shard.log.batches = ap (λ (l : LogShardState). l.batches) p.acks.log in
-          follows_keeps visit answer unread call _ (Rose p.counted l) p.at p.between (subst IsLog (sym same_log) is_log) (subst (IsSlotYet r.offset) (sym same_log) slot)
+          let starts : y.shard.log.start ≡ x.shard.log.start = ap (λ (l : LogShardState). l.start) p.log in
+          follows_keeps visit answer unread call starts _ (Rose p.counted l) p.at p.between (subst IsLog (sym same_log) is_log) (subst (IsSlotYet r.offset) (sym same_log) slot)
           (λ hold at. acks_hold_back hosted.conf (Rose c p.counted) _ x.shard visit p.between answer.ack p.acks.does r.group r.offset hold at)
           (λ none. acks_none hosted.conf (Rose c p.counted) _ x.shard visit p.between answer.ack p.acks.does r.group none)
-          unread p.does (acks_keep visit answer unread call (Rose c p.counted) _ p.between answer.ack refl p.acks.does k)
+          unread p.does (acks_keep visit answer unread call starts (Rose c p.counted) _ p.between answer.ack refl p.acks.does k)
       part_keeps now (Produces batch produced) call p k = still r.offset Reason hosted.conf r.group x.shard y.shard p.still.states p.still.pending k
       part_keeps now (Looks group looked) call p k = still r.offset Reason hosted.conf r.group x.shard y.shard
           (ap (λ (z : PartShardState). z.states) p.1) (ap (λ (z : PartShardState). z.pending) p.1) k
@@ -548,6 +586,7 @@ module _ (r : Record) (s : Step) (Reason : Type 0) (cause : Closes r s ⊎ IsMad
           groups_keep _ _ _ _ _ 0 (raised_to now x.shard) y.shard answer p.groups is_log slot
           (λ hold at due closed. closed_by (Expires answer) call hold ReleaseAct at (refl, subst (λ (c : ℕ). hold.end ≤ c) (sym p.clock) due) closed)
           (still r.offset Reason hosted.conf r.group x.shard (raised_to now x.shard) refl refl k)
+      part_keeps now (Deletes to answer) call p k = delete_keeps _ _ to answer p.does k
 
     abbrev KeptIn : HostedPart → Type 0
     KeptIn p = HasReason r.offset Reason p.hosted.conf r.group p.shard
@@ -555,18 +594,34 @@ module _ (r : Record) (s : Step) (Reason : Type 0) (cause : Closes r s ⊎ IsMad
     -- a power loss
     lost_keeps : IsLostIn s x y → KeptIn x → KeptIn y
     lost_keeps lost k = subst (λ (h : Hosted). HasReason r.offset Reason h.conf r.group y.shard) (sym lost.lands.hosted) (record {
-      now = λ passed. ⊎_elim
-          (λ same. k.now (subst (λ (z : ShareStates). Passed r.offset (table_at x.hosted.conf z r.group)) (states ∙ same) passed))
+      now = λ passed.
+          let had = before_loss passed in
+          ⊎_elim
+          (λ same. k.now (subst (λ (z : ShareStates). Passed r.offset (table_at x.hosted.conf z r.group)) same had))
           (λ own. ⊎_elim
           (λ reason. reason)
           (λ made. made_behind made.0 (subst (λ (h : Hosted). IsBelow r.offset (table_at h.conf y.shard.states r.group)) (sym lost.lands.hosted)
-          (subst (λ (z : ShareStates). IsBelow r.offset (table_at x.hosted.conf z r.group)) (sym states) made.1)))
-          (k.lost lost.lands.states own (subst (λ (z : ShareStates). Passed r.offset (table_at x.hosted.conf z r.group)) states passed)))
+          (subst (λ (z : ShareStates). IsBelow r.offset (table_at x.hosted.conf z r.group)) (sym states)
+          (subst (IsBelow r.offset) (sym (table_raised lost.lands.states))
+          (below_raised lost.lands.log.start r.offset within (table_at x.hosted.conf lost.lands.states r.group) made.1)))))
+          (k.lost lost.lands.states own had))
           lost.lands.states_are;
       lost = nothing_lost r.offset Reason x.hosted.conf r.group y.shard (ap (λ (z : PartShardState). z.pending) lost.lands.shard);
     }) where
-      states : y.shard.states ≡ lost.lands.states
+      states : y.shard.states ≡ raised_states lost.lands.log.start lost.lands.states
       states = ap (λ (z : PartShardState). z.states) lost.lands.shard
+
+      within : lost.lands.log.start ≤ r.offset
+      within = subst (λ (z : PartShardState). z.log.start ≤ r.offset) lost.lands.shard low
+
+      table_raised : (found : ShareStates) → table_at x.hosted.conf (raised_states lost.lands.log.start found) r.group
+          ≡ option_map (raised lost.lands.log.start) (table_at x.hosted.conf found r.group)
+      table_raised found = raised_at lost.lands.log.start found (key_of x.hosted.conf r.group)
+
+      before_loss : Passed r.offset (table_at x.hosted.conf y.shard.states r.group) → Passed r.offset (table_at x.hosted.conf lost.lands.states r.group)
+      before_loss passed = passed_raised lost.lands.log.start r.offset within (table_at x.hosted.conf lost.lands.states r.group)
+          (subst (Passed r.offset) (table_raised lost.lands.states)
+          (subst (λ (z : ShareStates). Passed r.offset (table_at x.hosted.conf z r.group)) states passed))
 
     goes_keep : Goes r.shard s x y → KeptIn x → KeptIn y
     goes_keep (inl same) k = subst KeptIn (sym same) k
@@ -584,6 +639,13 @@ part_log s now h old new (Visits visit answer unread) p = log_same old new p.log
 part_log s now h old new (Produces batch produced) p = log_goes _ _ old.log new.log batch produced p.log
 part_log s now h old new (Looks group looked) p = log_same old new (ap (λ (z : PartShardState). z.log) p.1)
 part_log s now h old new (Expires answer) p = log_same old new p.log
+part_log s now h old new (Deletes to answer) p = log_deletes _ _ old new to answer p.does
+
+-- a log starts where it did or behind
+goes_start : (n : ℕ) (s : Step) (x y : HostedPart) → Goes n s x y → x.shard.log.start ≤ y.shard.log.start
+goes_start n s x y (inl same) = let is : y.shard.log.start ≡ x.shard.log.start = ap (λ (p : HostedPart). p.shard.log.start) same in omega (arith, is)
+goes_start n s x y (inr (inl c)) = (part_grows (counts_of s.before s.after) (ends_of s.before s.after) c.now c.hosted x.shard y.shard c.did c.step.step).2
+goes_start n s x y (inr (inr lost)) = (lands_one x y lost.lands).start
 
 pub goes_log : (n : ℕ) (s : Step) (x y : HostedPart) → Goes n s x y → LogGoes x.shard.log.batches y.shard.log.batches
 goes_log n s x y (inl same) = log_stays x.shard.log.batches y.shard.log.batches (ap (λ (p : HostedPart). p.shard.log.batches) same)
@@ -609,6 +671,18 @@ module _ (conf : ConfigParts) (n : ℕ) where
       before_it o x.shard.log.batches w.0.shard.log.batches is_log g
       (slots_back o s.after last steps run.2 w.0 y w.1 there (g.still is_log) slot)
 
+  -- no log starts behind where it ends up
+  starts_back : (o : ℕ) (first last : State) (steps : List Step) → IsRun conf first steps last → (x y : HostedPart) → entry_at n (parts_of first) ≡ Some x
+      → entry_at n (parts_of last) ≡ Some y → y.shard.log.start ≤ o → x.shard.log.start ≤ o
+  starts_back o first last [] run x y at there low =
+      subst (λ (p : HostedPart). p.shard.log.start ≤ o)
+      (some_same y x (sym there ∙ ap (λ (s : State). entry_at n (parts_of s)) run ∙ at)) low
+  starts_back o first last (s ∷ steps) run x y at there low =
+      let w = went conf s run.1 n x (ap (λ (z : State). entry_at n (parts_of z)) run.0 ∙ at) in
+      let later = goes_start n s x w.0 w.2 in
+      let rest = starts_back o s.after last steps run.2 w.0 y w.1 there low in
+      omega (arith, later, rest)
+
   -- each partition was there at first
   pub first_entry : (first last : State) (steps : List Step) → IsRun conf first steps last → (y : HostedPart) → entry_at n (parts_of last) ≡ Some y
       → (x : HostedPart) × (entry_at n (parts_of first) ≡ Some x)
@@ -624,17 +698,18 @@ module _ (conf : ConfigParts) (r : Record) (Reason : Type 0) where
 
   run_keeps : (first last : State) (steps : List Step) → IsRun conf first steps last
       → ((s : Step) → Contains steps s → Closes r s ⊎ IsMadeBehind r s → Reason) → (x y : HostedPart) → entry_at r.shard (parts_of first) ≡ Some x
-      → entry_at r.shard (parts_of last) ≡ Some y → IsLog x.shard.log.batches → IsSlotYet r.offset y.shard.log.batches → Reasons x → Reasons y
-  run_keeps first last [] run cause x y at there is_log slot k =
+      → entry_at r.shard (parts_of last) ≡ Some y → IsLog x.shard.log.batches → IsSlotYet r.offset y.shard.log.batches → y.shard.log.start ≤ r.offset → Reasons x → Reasons y
+  run_keeps first last [] run cause x y at there is_log slot low k =
       subst Reasons (some_same x y (sym at ∙ ap (λ (s : State). entry_at r.shard (parts_of s)) (sym run) ∙ there)) k
-  run_keeps first last (s ∷ steps) run cause x y at there is_log slot k =
+  run_keeps first last (s ∷ steps) run cause x y at there is_log slot low k =
       let was = ap (λ (z : State). entry_at r.shard (parts_of z)) run.0 ∙ at in
       let w = went conf s run.1 r.shard x was in
       let g = goes_log r.shard s x w.0 w.2 in
       let mid = slots_back conf r.shard r.offset s.after last steps run.2 w.0 y w.1 there (g.still is_log) slot in
-      run_keeps s.after last steps run.2 (λ u c why. cause u (contains_rest s u steps c) why) w.0 y w.1 there (g.still is_log) slot
+      run_keeps s.after last steps run.2 (λ u c why. cause u (contains_rest s u steps c) why) w.0 y w.1 there (g.still is_log) slot low
       (goes_keep r s Reason (λ why. cause s (contains_front s s steps refl) why) x w.0 was w.1 is_log
-      (before_it r.offset x.shard.log.batches w.0.shard.log.batches is_log g mid) w.2 k)
+      (before_it r.offset x.shard.log.batches w.0.shard.log.batches is_log g mid)
+      (starts_back conf r.shard r.offset s.after last steps run.2 w.0 y w.1 there low) w.2 k)
 
 abbrev Because : State → List Step → Record → Type 0
 Because first steps r =
@@ -643,11 +718,11 @@ Because first steps r =
 
 pub passes_closed : (conf : ConfigParts) (first last : State) (steps : List Step) → IsRun conf first steps last → StartsPassClosedRecords first steps last
 passes_closed conf first last steps run well r ends =
-    let y = holds_entry r.shard (λ (q : HostedPart). IsSlot q.shard.log.batches r.offset × IsBelow r.offset (table_in q r.group)) (parts_of last) ends in
+    let y = holds_entry r.shard (λ (q : HostedPart). IsSlotOf (log_at q.shard.log) r.offset × IsBelow r.offset (table_in q r.group)) (parts_of last) ends in
     let x = first_entry conf r.shard first last steps run y.0 y.1 in
     let begins = all_entry r.shard IsWell (parts_of first) x.0 x.1 well in
     (run_keeps conf r (Because first steps r) first last steps run
-    (λ s c why. inr (s, c, why)) x.0 y.0 x.1 y.1 begins.0 (inl y.2.0)
+    (λ s c why. inr (s, c, why)) x.0 y.0 x.1 y.1 begins.0 (inl y.2.0.1) y.2.0.0
     (record {
       now = λ passed. inl (entry_holds r.shard
           (λ (p : HostedPart). IsBelow r.offset (table_in p r.group) ⊎ IsClosedRow r.offset (table_in p r.group)) (parts_of first) x.0 x.1 passed);
@@ -656,13 +731,20 @@ passes_closed conf first last steps run well r ends =
 
 -- ---- an opening
 
-opened_well : (contents : List ℕ → List ℕ) (parts : List HostedPart) → AllByRecursion (OpensPart contents) parts → AllByRecursion IsWell parts
+opened_well : (contents : List ℕ → List ℕ) (parts : List HostedPart) → AllByRecursion (OpensPart contents) parts → AllByRecursion BeginsWell parts
 opened_well contents [] all = tt
 opened_well contents (p ∷ parts) all = (
-  (
-    subst IsLog (sym (ap (λ (z : PartShardState). z.log.batches) all.0.shard)) (text_is_sound _ all.0.log all.0.stands.log_is).rises,
-    ap (λ (z : PartShardState). z.pending) all.0.shard,
-  ),
+  record {
+    well = (
+      subst IsLog (sym (ap (λ (z : PartShardState). z.log.batches) all.0.shard)) (text_is_sound _ all.0.log all.0.stands.log_is).rises,
+      ap (λ (z : PartShardState). z.pending) all.0.shard,
+    );
+    above = (
+      subst (λ (z : PartShardState). z.log.start ≤ end_of z.log.batches) (sym all.0.shard) (text_within _ all.0.log all.0.stands.log_is),
+      subst (λ (z : PartShardState). StartAbove z.log.start z.states) (sym all.0.shard)
+          (subst (StartAbove all.0.log.start) (sym all.0.stands.raised_is) (raised_above all.0.log.start all.0.stands.written)),
+    );
+  },
   opened_well contents parts all.1,
 )
 

@@ -1,10 +1,13 @@
 -- A failed call of a log's disk is told: by the calls on a partition in memory, and in each step of the machine.
-use Rattle.std.proofs.Common.{◌≡◌, ◌≢◌, ◌&&◌, inl, inr, ⊎_elim, refl, sym, ap, ◌∙◌, subst, arith, cond, ℕ, List, [], ◌∷◌, Bool, true, false, Option, Some, None, Result, Ok, Err}
+use Rattle.std.proofs.Common.{◌≡◌, ◌≢◌, ◌&&◌, inl, inr, ⊎_elim, refl, sym, ap, ◌∙◌, subst, arith, cond, ℕ, ℤ, List, [], ◌∷◌, Bool, true, false, Option, Some, None, Result, Ok, Err}
 use Rattle.std.proofs.lemmas.Bool.{cases_Bool, true≢false}
 use Rattle.std.specs.List.{AllByRecursion}
 use Rattle.edge_io.specs.Disk.{IsTold}
 use Rattle.edge_io.specs.Views.{DiskView}
 use Rattle.topic_conf.specs.Configs.{ConfigParts}
+use Rattle.share_model.specs.declared.delete.DeleteAnswer.{DeleteAnswer}
+use Rattle.share_model.specs.declared.delete.DeleteAnswer.TheVariants.{Done as Deleted, OutOfRange, Store as delete_store}
+use Rattle.share_model.specs.declared.delete.Placed.{Placed}
 use Rattle.share_model.specs.declared.fault.LogFault.{LogFault}
 use Rattle.share_model.specs.declared.fault.LogFault.TheVariants.{Batch as BadBatch, Store as Unstored}
 use Rattle.share_model.specs.declared.fault.StoreFault.TheVariants.{Device, Full}
@@ -26,7 +29,7 @@ use Rattle.broker_model.specs.Laws.{IsQuiet, TellsFaults}
 use Rattle.broker_model.specs.Runs.{Step, IsRun}
 use Rattle.broker_model.specs.States.{State}
 use Rattle.broker_model.specs.Shards.{PartCall, ShardCall, calls, failures_in, faults_met, log_faults_met, part_calls, reads_log, result_of, store_fault_of_then}
-use Rattle.broker_model.specs.Shards.PartCall.{Visits, Produces, Looks, Expires}
+use Rattle.broker_model.specs.Shards.PartCall.{Visits, Produces, Looks, Expires, Deletes}
 use Rattle.broker_model.specs.Shards.ShardCall.{CallForeign, CallPart, CallMembers}
 use Rattle.broker_model.proofs.Goes.{IsStepOf, called}
 use Rattle.broker_model.proofs.Names.{first_not, second_not, state_a_not, state_b_not}
@@ -42,10 +45,17 @@ unread_told o is none = let bad : 1 ≡ 0 = sym (ap (λ x. faults_met (store_fau
 
 -- a batch that tells no device fault wasn't refused for one
 not_device : (produced : Produced) → log_faults_met (Produces [] produced) ≡ 0 → result_of produced ≢ Err (Unstored Device)
-not_device (Base base) none e = let bad : ◌≡◌ {A = Result ℕ LogFault} (Ok base) (Err (Unstored Device)) = e in cc
-not_device (Batch fault) none e = let bad : ◌≡◌ {A = Result ℕ LogFault} (Err (BadBatch fault)) (Err (Unstored Device)) = e in cc
+not_device (Base base) none e = let bad : ◌≡◌ {A = Result Placed LogFault} (Ok base) (Err (Unstored Device)) = e in cc
+not_device (Batch fault) none e = let bad : ◌≡◌ {A = Result Placed LogFault} (Err (BadBatch fault)) (Err (Unstored Device)) = e in cc
 not_device (Store Device) none e = omega (arith, none)
-not_device (Store (Full end)) none e = let bad : ◌≡◌ {A = Result ℕ LogFault} (Err (Unstored (Full end))) (Err (Unstored Device)) = e in cc
+not_device (Store (Full end)) none e = let bad : ◌≡◌ {A = Result Placed LogFault} (Err (Unstored (Full end))) (Err (Unstored Device)) = e in cc
+
+-- nor does a delete meet one
+undeleted : (answer : DeleteAnswer) (to : ℤ) → log_faults_met (Deletes to answer) ≡ 0 → answer ≢ delete_store Device
+undeleted (Deleted start) to none e = cc
+undeleted (OutOfRange end) to none e = cc
+undeleted (delete_store Device) to none e = omega (arith, none)
+undeleted (delete_store (Full end)) to none e = cc
 
 module _ {D W : Type 0} (seen : D → DiskView) (old new : PartParts D W) where
   -- no call of the log's disk failed, where the call tells none
@@ -68,6 +78,12 @@ module _ {D W : Type 0} (seen : D → DiskView) (old new : PartParts D W) where
         → (seen new.log.journal.disk).faults ≡ (seen old.log.journal.disk).faults)
         → TakesStep seen conf old new now s (Produces batch produced) after → StepsOn seen conf old new now s (Produces batch produced) after
     steps_batch batch produced quiet step = record { step = step; quiet = λ none. quiet (not_device produced none) }
+
+    pub steps_delete : (to : ℤ) (answer : DeleteAnswer)
+        → (answer ≢ delete_store Device → IsTold (seen old.log.journal.disk).content
+        → (seen new.log.journal.disk).faults ≡ (seen old.log.journal.disk).faults)
+        → TakesStep seen conf old new now s (Deletes to answer) after → StepsOn seen conf old new now s (Deletes to answer) after
+    steps_delete to answer quiet step = record { step = step; quiet = λ none. quiet (undeleted answer to none) }
 
     -- a call that leaves the log as it is
     pub steps_still : (did : PartCall) → new.log ≡ old.log → TakesStep seen conf old new now s did after → StepsOn seen conf old new now s did after
@@ -92,6 +108,7 @@ module _ (conf : ConfigParts) (s : Step) (step : IsStepOf conf s) (name : List �
   is_its h (Produces batch produced) has = is_same name (log_of h) has
   is_its h (Looks group looked) has = absurd (true≢false (sym has))
   is_its h (Expires answer) has = absurd (not_states h has)
+  is_its h (Deletes to answer) has = is_same name (log_of h) has
 
   -- what fails on it in the call is what fails of the log
   log_fails : (h : Hosted) (shard : ℕ) (did : PartCall) → name ≡ log_of h → failures_in (OnOne name) (Some (CallPart shard h did)) ≡ 0

@@ -26,12 +26,13 @@ use Rattle.topic_conf.specs.Topics.{shard_named}
 use Rattle.share_session.specs.declared.step.Purpose.{Purpose}
 use Rattle.share_session.specs.declared.step.Purpose.TheVariants as purpose
 use Rattle.call_fold.specs.declared.part.Part.{Part}
-use Rattle.call_fold.specs.declared.part.Part.TheVariants.{Foreign as PartForeign, Produce as PartProduce, Visit as PartVisit}
+use Rattle.call_fold.specs.declared.part.Part.TheVariants.{Foreign as PartForeign, Produce as PartProduce, Delete as PartDelete, Visit as PartVisit}
 use Rattle.call_fold.specs.declared.part.PartAnswer.{PartAnswer}
-use Rattle.call_fold.specs.declared.part.PartAnswer.TheVariants.{Foreign as AnswerForeign, Produce as AnswerProduce, Visit as AnswerVisit}
+use Rattle.call_fold.specs.declared.part.PartAnswer.TheVariants.{Foreign as AnswerForeign, Produce as AnswerProduce, Delete as AnswerDelete, Visit as AnswerVisit}
 use Rattle.call_fold.specs.declared.part.Produced.TheVariants.{Store as log_store}
+use Rattle.share_model.specs.declared.delete.DeleteAnswer.TheVariants.{Store as delete_store}
 use Rattle.conn_core.specs.declared.hand.Hand.{Hand}
-use Rattle.conn_core.specs.declared.hand.Hand.TheVariants.{Produce, Fetch, Acknowledge, Heartbeat, Initialize, Read, Write, Delete}
+use Rattle.conn_core.specs.declared.hand.Hand.TheVariants.{Produce, DeleteRecords, Fetch, Acknowledge, Heartbeat, Initialize, Read, Write, Delete}
 use Rattle.conn_core.specs.declared.next.Next.{Next}
 use Rattle.conn_core.specs.declared.next.Next.TheVariants.{Idle, Ask, Ready, Closed, Gone}
 use Rattle.conn_core.specs.declared.work.Work.{Work}
@@ -59,7 +60,7 @@ use Rattle.broker_model.specs.Hosted.{Hosted}
 use Rattle.broker_model.specs.Machine.{Machine, conn_at}
 use Rattle.broker_model.specs.Shards.{Answered, Counts, Ends, ShardCall, Shards, StepsShards, answered_by, faults_told, fault_of_release}
 use Rattle.broker_model.specs.Shards.ShardCall.{CallForeign, CallPart}
-use Rattle.broker_model.specs.Shards.PartCall.{Expires, Produces, Visits}
+use Rattle.broker_model.specs.Shards.PartCall.{Deletes, Expires, Produces, Visits}
 use Rattle.broker_model.specs.Steps.{Does, DoesPart, replies_to, ExpiresAt, IsRestart, Serves, StepsTo, TakesTurn}
 use Rattle.broker_model.specs.States.{State, counts_of, ends_of}
 use Rattle.broker_model.specs.Runs.{Step, IsRun}
@@ -247,6 +248,7 @@ state_entry means group (asked.Hosted partition number) op answer is code = absu
 visit_acks : (hand : Hand) (shard : ℕ) (visit : Visit) (answer : VisitAnswer) (fault : StoreFault) → answer.ack ≡ ack_store fault
     → hand_part hand ≡ PartVisit shard visit → TellsAcks hand (AnswerVisit answer)
 visit_acks (Produce a) shard visit answer fault is asks = absurd cc
+visit_acks (DeleteRecords a) shard visit answer fault is asks = absurd cc
 visit_acks (Fetch a) shard visit answer fault is asks = fetch_acks a.question.step.purpose a.question.told answer fault is
 visit_acks (Acknowledge a) shard visit answer fault is asks = ack_acks a.question.told answer fault is
 visit_acks (Heartbeat a) shard visit answer fault is asks = absurd cc
@@ -262,6 +264,7 @@ visit_fetch : (hand : Hand) (shard : ℕ) (visit : Visit) (answer : VisitAnswer)
     → visit.«then» ≡ ThenFetch records bytes first → answer.«then» ≡ then_store fault
     → hand_part hand ≡ PartVisit shard visit → TellsFetch hand (AnswerVisit answer)
 visit_fetch (Produce a) shard visit answer fault records bytes first fetches is asks = absurd cc
+visit_fetch (DeleteRecords a) shard visit answer fault records bytes first fetches is asks = absurd cc
 visit_fetch (Fetch a) shard visit answer fault records bytes first fetches is asks =
     fetch_fetches a.call a.question.step.purpose a.question.told answer fault records bytes first
     (then_is a.question.step.shard shard (visit_of a.question.step (then_of a.call a.question.step.purpose)) visit asks ∙ fetches) is
@@ -277,6 +280,7 @@ visit_fetch (Delete a) shard visit answer fault records bytes first fetches is a
 batch_entry : (hand : Hand) (shard : ℕ) (batch : List ℕ) (fault : StoreFault)
     → hand_part hand ≡ PartProduce shard batch → TellsEntry hand (AnswerProduce (log_store fault))
 batch_entry (Produce a) shard batch fault asks = refl
+batch_entry (DeleteRecords a) shard batch fault asks = absurd cc
 batch_entry (Fetch a) shard batch fault asks = absurd cc
 batch_entry (Acknowledge a) shard batch fault asks = absurd cc
 batch_entry (Heartbeat a) shard batch fault asks = absurd cc
@@ -285,9 +289,27 @@ batch_entry (Read a) shard batch fault asks = no_batch read_means a.call.group a
 batch_entry (Write a) shard batch fault asks = no_batch write_means a.call.group a.question shard batch asks
 batch_entry (Delete a) shard batch fault asks = no_batch delete_means a.call.group a.question shard batch asks
 
+no_delete : {P W R A : Type 0} (means : StateMeans P W R) (group : List ℕ) (q : Question W) (shard : ℕ) (to : ℤ)
+    → question_part means group q ≡ PartDelete shard to → A
+no_delete means group (asked.Foreign wished) shard to is = absurd cc
+no_delete means group (asked.Hosted partition number) shard to is = absurd cc
+
+deletion_entry : (hand : Hand) (shard : ℕ) (to : ℤ) (fault : StoreFault)
+    → hand_part hand ≡ PartDelete shard to → TellsEntry hand (AnswerDelete (delete_store fault))
+deletion_entry (Produce a) shard to fault asks = absurd cc
+deletion_entry (DeleteRecords a) shard to fault asks = refl
+deletion_entry (Fetch a) shard to fault asks = absurd cc
+deletion_entry (Acknowledge a) shard to fault asks = absurd cc
+deletion_entry (Heartbeat a) shard to fault asks = absurd cc
+deletion_entry (Initialize a) shard to fault asks = no_delete initialize_means a.call.group a.question shard to asks
+deletion_entry (Read a) shard to fault asks = no_delete read_means a.call.group a.question shard to asks
+deletion_entry (Write a) shard to fault asks = no_delete write_means a.call.group a.question shard to asks
+deletion_entry (Delete a) shard to fault asks = no_delete delete_means a.call.group a.question shard to asks
+
 foreign_entry : (hand : Hand) (op : ForeignOp) (answer : ForeignAnswer) → IsStorageError answer.code.0
     → hand_part hand ≡ PartForeign op → TellsEntry hand (AnswerForeign answer)
 foreign_entry (Produce a) op answer code asks = absurd cc
+foreign_entry (DeleteRecords a) op answer code asks = absurd cc
 foreign_entry (Fetch a) op answer code asks = absurd cc
 foreign_entry (Acknowledge a) op answer code asks = absurd cc
 foreign_entry (Heartbeat a) op answer code asks = absurd cc
@@ -334,6 +356,8 @@ module _ (conf : ConfigParts) (s : Step) (step : IsStepOf conf s) where
         (asks_part (CallPart shard hosted (Visits visit answer unread)) (PartVisit shard visit) (AnswerVisit answer) call refl hand h);
     produce = λ hand shard hosted batch fault h call. batch_entry hand shard batch fault
         (asks_part (CallPart shard hosted (Produces batch (log_store fault))) (PartProduce shard batch) (AnswerProduce (log_store fault)) call refl hand h);
+    delete = λ hand shard hosted to fault h call. deletion_entry hand shard to fault
+        (asks_part (CallPart shard hosted (Deletes to (delete_store fault))) (PartDelete shard to) (AnswerDelete (delete_store fault)) call refl hand h);
     foreign = λ hand op answer fault h call. foreign_entry hand op answer (at_foreign op answer fault call)
         (asks_part (CallForeign op answer (Some fault)) (PartForeign op) (AnswerForeign answer) call refl hand h);
   }

@@ -7,6 +7,7 @@ use Rattle.edge_io.specs.Causes.{Rose}
 use Rattle.edge_io.specs.Disk.{IsTold}
 use Rattle.edge_io.specs.Views.{DiskView}
 use Rattle.share_model.specs.ForeignRules.{share_state_at}
+use Rattle.share_part.specs.Deleting.{StepsDelete}
 use Rattle.share_part.specs.Expiring.{StepsExpire}
 use Rattle.share_part.specs.Failures.{failures_of}
 use Rattle.share_part.specs.Hosting.{PartConfParts, key_of}
@@ -14,7 +15,7 @@ use Rattle.share_part.specs.Once.{reading_of}
 use Rattle.share_part.specs.Shards.{PartParts, PartShardState, StepsProduce}
 use Rattle.share_part.specs.Visits.{StepsVisit}
 use Rattle.broker_model.specs.Shards.{PartCall, log_faults_met, look_at, result_of}
-use Rattle.broker_model.specs.Shards.PartCall.{Visits, Produces, Looks, Expires}
+use Rattle.broker_model.specs.Shards.PartCall.{Visits, Produces, Looks, Expires, Deletes}
 
 -- the journal of its log never ends before where it did
 pub record EndsGoOn {D W : Type 0} (old new : PartParts D W) : Type 0 where
@@ -32,6 +33,8 @@ TakesStep seen conf old new now shard (Looks group looked) after =
     (looked ≡ look_at (share_state_at shard.states (key_of conf group))) × (after ≡ shard)
 TakesStep seen conf old new now shard (Expires answer) after =
     StepsExpire conf (failures_of seen old.states) (failures_of seen new.states) old.states.journal.end new.states.journal.end shard now answer after
+TakesStep seen conf old new now shard (Deletes to answer) after =
+    StepsDelete (Rose (seen old.log.journal.disk).faults (seen new.log.journal.disk).faults) old.log.journal.end shard now to answer after
 
 -- It takes that step, and its answer tells each failed call of the log's disk: where it tells none, none failed, if
 -- that disk tells its content.

@@ -4,8 +4,8 @@ use Rattle.std.specs.Prelude.{◌≡◌, List, Option, None, Some}
 use Rattle.std.specs.List.{AllByRecursion}
 use Rattle.session_script.specs.declared.event.Event.{Event}
 use Rattle.topic_conf.specs.Configs.{ConfigParts}
-use Rattle.broker_model.specs.Shards.{PartCall, ShardCall, store_fault_of_ack, store_fault_of_expiry, store_fault_of_log, store_fault_of_then}
-use Rattle.broker_model.specs.Shards.PartCall.{Visits, Produces, Looks, Expires}
+use Rattle.broker_model.specs.Shards.{PartCall, ShardCall, store_fault_of_ack, store_fault_of_delete, store_fault_of_expiry, store_fault_of_log, store_fault_of_then}
+use Rattle.broker_model.specs.Shards.PartCall.{Visits, Produces, Looks, Expires, Deletes}
 use Rattle.broker_model.specs.Shards.ShardCall.{CallForeign, CallPart, CallMembers}
 use Rattle.broker_model.specs.States.{State}
 use Rattle.broker_model.specs.Runs.{Step, IsRun, events_of, outcomes_of, calls_of, calls_made}
@@ -31,6 +31,7 @@ PartMetNoFault (Visits visit answer unread) = (store_fault_of_ack answer.ack ≡
 PartMetNoFault (Produces batch produced) = store_fault_of_log produced ≡ None
 PartMetNoFault (Looks group looked) = Unit {0}
 PartMetNoFault (Expires answer) = store_fault_of_expiry answer ≡ None
+PartMetNoFault (Deletes to answer) = store_fault_of_delete answer ≡ None
 
 -- no shard's store met a fault
 abbrev pub MetNoFault : Option ShardCall → Type 0

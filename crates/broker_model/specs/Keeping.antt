@@ -3,9 +3,8 @@
 -- For example a batch that is answered with base 3 stands in its log, at offset 3, at each later time, also behind a power loss. A record of
 -- it that is accepted at its first delivery is stored as acknowledged with count 1 from then on, or lies below the start; and one that is
 -- released at its fifth, where that is the limit, as archived with count 5.
-use Rattle.std.specs.Prelude.{◌≡◌, ◌⊎◌, ◌<◌, ℕ, List, ◌∷◌, ◌++◌, Option, Some, None, Bool, true}
+use Rattle.std.specs.Prelude.{◌≡◌, ◌⊎◌, ◌<◌, ◌≤◌, ℕ, List, ◌∷◌, ◌++◌, Option, Some, None, Bool, true}
 use Rattle.std.specs.List.{AllByRecursion, AllZip}
-use Rattle.ack_ranges.specs.Batches.{kind_at}
 use Rattle.rec_batch.specs.Placing.{placed}
 use Rattle.share_model.specs.ForeignRules.{size_of}
 use Rattle.share_model.specs.Held.{hold_at}
@@ -13,11 +12,13 @@ use Rattle.share_model.specs.Logs.{Batch}
 use Rattle.share_model.specs.Runs.{row_at}
 use Rattle.share_model.specs.ShareStates.{ShareState}
 use Rattle.share_model.specs.declared.ack.AckKind.{AckKind}
+use Rattle.share_model.specs.declared.delete.Placed.{Placed}
 use Rattle.share_model.specs.declared.hold.Hold.{Hold}
 use Rattle.share_model.specs.declared.row.Row.{Row}
 use Rattle.share_model.specs.declared.visit.AckOutcome.TheVariants.{Done}
 use Rattle.share_model.specs.declared.visit.Visit.{Visit}
 use Rattle.share_model.specs.declared.visit.VisitAnswer.{VisitAnswer}
+use Rattle.share_part.specs.Named.{named_from}
 use Rattle.share_part.specs.Settling.{is_closed_state, settled}
 use Rattle.part_log.specs.Batches.{batch_in}
 use Rattle.call_fold.specs.declared.part.Produced.TheVariants.{Base}
@@ -30,11 +31,12 @@ use Rattle.broker_model.specs.Starts.{IsWell, table_in}
 use Rattle.broker_model.specs.States.{State}
 use Rattle.broker_model.specs.Runs.{Step}
 
--- a log has the batches that it had, in their order, and may have more behind them
+-- a log has the batches that it had, in their order, and may have more behind them; it starts where it did or behind
 pub record GoesOnAs (old new : HostedPart) : Type 0 where
   pub more : List Batch
   pub hosted : new.hosted ≡ old.hosted
   pub batches : new.shard.log.batches ≡ old.shard.log.batches ++ more
+  pub start : old.shard.log.start ≤ new.shard.log.start
 
 -- the batch is one of the log's
 abbrev pub IsIn : Batch → List Batch → Type 0
@@ -43,9 +45,9 @@ IsIn b log = (before after : List Batch) × (log ≡ before ++ (b ∷ after))
 -- No log loses a batch, and each batch that was answered with a base stands in its log in the end, at that base and with leader epoch 0.
 pub record KeepsBatches (first : State) (steps : List Step) (last : State) : Type 0 where
   pub logs : AllZip GoesOnAs first.machine.shards.parts last.machine.shards.parts
-  pub answered : (before after : List Step) (s : Step) → steps ≡ before ++ (s ∷ after) → (shard base : ℕ) (hosted : Hosted) (batch : List ℕ)
-      → s.call ≡ Some (CallPart shard hosted (Produces batch (Base base)))
-      → HoldsAt shard (λ (p : HostedPart). IsIn (batch_in (placed base batch)) p.shard.log.batches) last.machine.shards.parts
+  pub answered : (before after : List Step) (s : Step) → steps ≡ before ++ (s ∷ after) → (shard : ℕ) (at : Placed) (hosted : Hosted) (batch : List ℕ)
+      → s.call ≡ Some (CallPart shard hosted (Produces batch (Base at)))
+      → HoldsAt shard (λ (p : HostedPart). IsIn (batch_in (placed at.base batch)) p.shard.log.batches) last.machine.shards.parts
 
 -- ---- acknowledgements
 
@@ -58,7 +60,7 @@ pub record IsActedOnIn (r : Record) (s : Step) : Type 0 where
   pub kind : AckKind
   pub call : s.call ≡ Some (CallPart r.shard hosted (Visits visit answer unread))
   pub group : visit.group ≡ r.group
-  pub named : kind_at visit.acks r.offset ≡ Some kind
+  pub named : HoldsAt r.shard (λ (p : HostedPart). named_from p.shard.log.start visit.acks r.offset ≡ Some kind) s.before.machine.shards.parts
   pub done : answer.ack ≡ Done
 
 -- the record has this row, or lies below the start

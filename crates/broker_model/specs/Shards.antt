@@ -2,10 +2,13 @@
 -- foreign state. Each shard's own crate has its states, calls and steps. This project's own.
 -- For example a read of foreign state leaves all shards as they are, and a batch that is produced to `orders` 0 leaves all but that
 -- partition.
-use Rattle.std.specs.Prelude.{◌≡◌, ◌+◌, ◌&&◌, ◌||◌, ℕ, List, [], ◌∷◌, Option, Some, None, Bool, true, false, map, Result, Ok, Err, if◌then◌else◌}
+use Rattle.std.specs.Prelude.{◌≡◌, ◌+◌, ◌&&◌, ◌||◌, ℕ, ℤ, List, [], ◌∷◌, Option, Some, None, Bool, true, false, map, Result, Ok, Err, if◌then◌else◌}
 use Rattle.edge_io.specs.Causes.{Rose}
 use Rattle.share_model.specs.ForeignRules.{share_state_at}
 use Rattle.share_model.specs.ShareStates.{ShareState}
+use Rattle.share_model.specs.declared.delete.DeleteAnswer.{DeleteAnswer}
+use Rattle.share_model.specs.declared.delete.DeleteAnswer.TheVariants.{Done as Deleted, OutOfRange, Store as delete_store}
+use Rattle.share_model.specs.declared.delete.Placed.{Placed}
 use Rattle.share_model.specs.declared.fault.LogFault.{LogFault}
 use Rattle.share_model.specs.declared.fault.LogFault.TheVariants.{Batch as BadBatch, Store as Unstored}
 use Rattle.share_model.specs.declared.fault.StoreFault.{StoreFault}
@@ -28,17 +31,19 @@ use Rattle.msgs_group.specs.declared.heartbeat_reply.HeartbeatReply.{HeartbeatRe
 use Rattle.session_script.specs.declared.event.Outcome.{Outcome}
 use Rattle.session_script.specs.declared.event.Outcome.TheVariants.{Fault}
 use Rattle.call_fold.specs.declared.part.Part.{Part}
-use Rattle.call_fold.specs.declared.part.Part.TheVariants.{Foreign, Produce, Visit as PartVisit, Look, Heartbeat}
+use Rattle.call_fold.specs.declared.part.Part.TheVariants.{Foreign, Produce, Visit as PartVisit, Look, Heartbeat, Delete}
 use Rattle.call_fold.specs.declared.part.Produced.{Produced}
 use Rattle.call_fold.specs.declared.part.Produced.TheVariants.{Base, Batch, Store}
 use Rattle.call_fold.specs.declared.part.Looked.{Looked}
 use Rattle.call_fold.specs.declared.part.Looked.TheVariants.{Absent, There}
 use Rattle.call_fold.specs.declared.part.PartAnswer.{PartAnswer}
-use Rattle.call_fold.specs.declared.part.PartAnswer.TheVariants.{Foreign as AnswerForeign, Produce as AnswerProduce, Visit as AnswerVisit, Look as AnswerLook, Heartbeat as AnswerHeartbeat}
+use Rattle.call_fold.specs.declared.part.PartAnswer.TheVariants.{Foreign as AnswerForeign, Produce as AnswerProduce, Visit as AnswerVisit, Look as AnswerLook}
+use Rattle.call_fold.specs.declared.part.PartAnswer.TheVariants.{Heartbeat as AnswerHeartbeat, Delete as AnswerDelete}
 use Rattle.foreign_coord.specs.Shards.{ForeignShardState, StepsForeign}
 use Rattle.share_members.specs.Groups.{Memberships}
 use Rattle.share_members.specs.Heartbeats.{heartbeat_step}
 use Rattle.share_members.specs.Expiry.{expire_step}
+use Rattle.share_part.specs.Deleting.{StepsDelete}
 use Rattle.share_part.specs.Hosting.{key_of}
 use Rattle.share_part.specs.Shards.{PartShardState, StepsProduce}
 use Rattle.share_part.specs.Visits.{StepsVisit}
@@ -70,6 +75,7 @@ pub data PartCall : Type 0 where
   Produces : (batch : List ℕ) (produced : Produced) → PartCall
   Looks : (group : List ℕ) (looked : Looked) → PartCall
   Expires : (answer : ExpireAnswer) → PartCall
+  Deletes : (to : ℤ) (answer : DeleteAnswer) → PartCall
 
 -- what was called of the memberships
 pub data MembersCall : Type 0 where
@@ -93,6 +99,7 @@ answered_by_part shard (Visits visit answer unread) = Some (record { part = Part
 answered_by_part shard (Produces batch produced) = Some (record { part = Produce shard batch; answer = AnswerProduce produced })
 answered_by_part shard (Looks group looked) = Some (record { part = Look shard group; answer = AnswerLook looked })
 answered_by_part shard (Expires answer) = None
+answered_by_part shard (Deletes to answer) = Some (record { part = Delete shard to; answer = AnswerDelete answer })
 
 abbrev pub answered_by_members : MembersCall → Option Answered
 answered_by_members (Beats request reply) = Some (record { part = Heartbeat request; answer = AnswerHeartbeat reply })
@@ -123,9 +130,14 @@ store_fault_of_then followed = None
 store_fault_of_then (then_store fault) = Some fault
 
 abbrev pub store_fault_of_log : Produced → Option StoreFault
-store_fault_of_log (Base base) = None
+store_fault_of_log (Base placed) = None
 store_fault_of_log (Batch fault) = None
 store_fault_of_log (Store fault) = Some fault
+
+abbrev pub store_fault_of_delete : DeleteAnswer → Option StoreFault
+store_fault_of_delete (Deleted start) = None
+store_fault_of_delete (OutOfRange end) = None
+store_fault_of_delete (delete_store fault) = Some fault
 
 abbrev pub store_fault_of_expiry : ExpireAnswer → Option StoreFault
 store_fault_of_expiry (freed_all freed) = None
@@ -139,13 +151,15 @@ state_faults_met (Visits visit answer unread) = faults_met (store_fault_of_ack a
 state_faults_met (Produces batch produced) = 0
 state_faults_met (Looks group looked) = 0
 state_faults_met (Expires answer) = faults_met (store_fault_of_expiry answer)
+state_faults_met (Deletes to answer) = 0
 
--- of a batch its write may fail, and of a fetch the reading of a batch, which ends it
+-- of a batch and of a delete the write may fail, and of a fetch the reading of a batch, which ends it
 abbrev pub log_faults_met : PartCall → ℕ
 log_faults_met (Visits visit answer unread) = if unread then faults_met (store_fault_of_then answer.then) else 0
 log_faults_met (Produces batch produced) = faults_met (store_fault_of_log produced)
 log_faults_met (Looks group looked) = 0
 log_faults_met (Expires answer) = 0
+log_faults_met (Deletes to answer) = faults_met (store_fault_of_delete answer)
 
 -- ---- steps
 
@@ -172,8 +186,8 @@ abbrev pub rose_on : Counts → StoreDisks → Type 0
 rose_on counts store = Rose (faults_before counts store) (faults_behind counts store)
 
 -- an answer of a log as the result of its call
-abbrev pub result_of : Produced → Result ℕ LogFault
-result_of (Base base) = Ok base
+abbrev pub result_of : Produced → Result Placed LogFault
+result_of (Base placed) = Ok placed
 result_of (Batch fault) = Err (BadBatch fault)
 result_of (Store fault) = Err (Unstored fault)
 
@@ -193,6 +207,8 @@ StepsPart told counts ends now h old (Looks group looked) new =
     (looked ≡ look_at (share_state_at old.states (key_of h.conf group))) × (new ≡ old)
 StepsPart told counts ends now h old (Expires answer) new =
     StepsExpire h.conf (faults_before counts (state_store h)) (faults_behind counts (state_store h)) (ends (first_of h)).0 (ends (first_of h)).1 old now answer new
+StepsPart told counts ends now h old (Deletes to answer) new =
+    StepsDelete (rose_at counts (log_of h)) (ends (log_of h)).0 old now to answer new
 
 -- This partition's shard does, and the log's disk tells its content. The answer tells each failed call of that disk:
 -- where it tells none, the count stands. A call of a state disk may fail untold, in a checkpoint.
@@ -235,6 +251,7 @@ faults_of_part shard (Visits visit answer unread) = fault_of_release shard visit
 faults_of_part shard (Produces batch produced) = []
 faults_of_part shard (Looks group looked) = []
 faults_of_part shard (Expires answer) = fault_of_expiry shard answer
+faults_of_part shard (Deletes to answer) = []
 
 -- an expiry, or a release in a visit, that couldn't be stored is an outcome; a fault of anything else is told in a reply alone
 abbrev pub faults_told : ShardCall → List Outcome
@@ -256,6 +273,7 @@ part_calls h (Visits visit answer unread) name = (reads_log visit.then && has_di
 part_calls h (Produces batch produced) name = has_disk (log_store h) name
 part_calls h (Looks group looked) name = false
 part_calls h (Expires answer) name = has_disk (state_store h) name
+part_calls h (Deletes to answer) name = has_disk (log_store h) name
 
 -- the shard of this disk was called, and may have used it
 abbrev pub calls : Option ShardCall → List ℕ → Bool

@@ -5,6 +5,7 @@
 -- an expiry fails, the line `fault orders/0` comes in that step.
 use Rattle.std.specs.Prelude.{◌≡◌, ℕ, ℤ, List, [], ◌∷◌, Some, IfSome, Bool}
 use Rattle.share_model.specs.ErrorCodes.{KAFKA_STORAGE_ERROR}
+use Rattle.share_model.specs.declared.delete.DeleteAnswer.TheVariants.{Store as delete_store}
 use Rattle.share_model.specs.declared.fault.StoreFault.{StoreFault}
 use Rattle.share_model.specs.declared.foreign.ForeignAnswer.{ForeignAnswer}
 use Rattle.share_model.specs.declared.foreign.ForeignOp.{ForeignOp}
@@ -20,13 +21,14 @@ use Rattle.session_script.specs.declared.event.Outcome.{Outcome}
 use Rattle.session_script.specs.declared.event.Outcome.TheVariants.{Fault}
 use Rattle.topic_conf.specs.Configs.{ConfigParts}
 use Rattle.call_fold.specs.declared.part.PartAnswer.{PartAnswer}
-use Rattle.call_fold.specs.declared.part.PartAnswer.TheVariants.{Foreign as AnswerForeign, Produce as AnswerProduce, Visit as AnswerVisit}
+use Rattle.call_fold.specs.declared.part.PartAnswer.TheVariants.{Foreign as AnswerForeign, Produce as AnswerProduce, Visit as AnswerVisit, Delete as AnswerDelete}
 use Rattle.call_fold.specs.declared.part.Produced.TheVariants.{Store as log_store}
 use Rattle.conn_core.specs.declared.hand.Hand.{Hand}
-use Rattle.conn_core.specs.declared.hand.Hand.TheVariants.{Produce, Fetch, Acknowledge, Heartbeat, Initialize, Read, Write, Delete}
+use Rattle.conn_core.specs.declared.hand.Hand.TheVariants.{Produce, DeleteRecords, Fetch, Acknowledge, Heartbeat, Initialize, Read, Write, Delete}
 use Rattle.conn_core.specs.declared.work.Work.TheVariants.{Busy}
 use Rattle.conn_core.specs.Conns.{ConnParts}
 use Rattle.conn_core.specs.Turning.{turn}
+use Rattle.log_calls.specs.Delete.{delete_acts}
 use Rattle.log_calls.specs.Produce.{produce_acts}
 use Rattle.share_calls.specs.Fetch.{fetch_acts}
 use Rattle.share_calls.specs.Acknowledge.{ack_acts}
@@ -40,7 +42,7 @@ use Rattle.msgs_state.specs.StateReply.{partition_result}
 use Rattle.broker_model.specs.Hosted.{Hosted}
 use Rattle.broker_model.specs.Machine.{conn_at}
 use Rattle.broker_model.specs.Shards.ShardCall.{CallForeign, CallPart}
-use Rattle.broker_model.specs.Shards.PartCall.{Expires, Produces, Visits}
+use Rattle.broker_model.specs.Shards.PartCall.{Deletes, Expires, Produces, Visits}
 use Rattle.broker_model.specs.Runs.{Step}
 
 abbrev pub IsStorageError : ℤ → Type 0
@@ -51,6 +53,7 @@ IsStorageError code = code ≡ KAFKA_STORAGE_ERROR.0
 -- its code of acknowledgements is 56; a visit that the reply doesn't tell has no entry
 abbrev pub TellsAcks : Hand → PartAnswer → Type 0
 TellsAcks (Produce a) answer = ⊥
+TellsAcks (DeleteRecords a) answer = ⊥
 TellsAcks (Fetch a) answer = IfSome (fetch_acts.row a.call a.question answer) (λ row. IsStorageError row.partition.acknowledge_error_code)
 TellsAcks (Acknowledge a) answer = IfSome (ack_acts.row a.call a.question answer) (λ row. IsStorageError row.error_code)
 TellsAcks (Heartbeat a) answer = ⊥
@@ -62,6 +65,7 @@ TellsAcks (Delete a) answer = ⊥
 -- its code of the fetch is 56
 abbrev pub TellsFetch : Hand → PartAnswer → Type 0
 TellsFetch (Produce a) answer = ⊥
+TellsFetch (DeleteRecords a) answer = ⊥
 TellsFetch (Fetch a) answer = IfSome (fetch_acts.row a.call a.question answer) (λ row. IsStorageError row.partition.error_code)
 TellsFetch (Acknowledge a) answer = ⊥
 TellsFetch (Heartbeat a) answer = ⊥
@@ -73,6 +77,7 @@ TellsFetch (Delete a) answer = ⊥
 -- its one code is 56
 abbrev pub TellsEntry : Hand → PartAnswer → Type 0
 TellsEntry (Produce a) answer = IsStorageError (produce_acts.row a.call a.question answer).error_code
+TellsEntry (DeleteRecords a) answer = IsStorageError (delete_acts.row a.call a.question answer).error_code
 TellsEntry (Fetch a) answer = ⊥
 TellsEntry (Acknowledge a) answer = ⊥
 TellsEntry (Heartbeat a) answer = ⊥
@@ -106,5 +111,7 @@ pub record TellsStoreFaults (conf : ConfigParts) (s : Step) : Type 0 where
       visit.«then» ≡ ThenFetch records bytes first → answer.«then» ≡ then_store fault → TellsFetch hand (AnswerVisit answer)
   pub produce : (hand : Hand) (shard : ℕ) (hosted : Hosted) (batch : List ℕ) (fault : StoreFault) → IsInHand conf s hand →
       s.call ≡ Some (CallPart shard hosted (Produces batch (log_store fault))) → TellsEntry hand (AnswerProduce (log_store fault))
+  pub delete : (hand : Hand) (shard : ℕ) (hosted : Hosted) (to : ℤ) (fault : StoreFault) → IsInHand conf s hand →
+      s.call ≡ Some (CallPart shard hosted (Deletes to (delete_store fault))) → TellsEntry hand (AnswerDelete (delete_store fault))
   pub foreign : (hand : Hand) (op : ForeignOp) (answer : ForeignAnswer) (fault : StoreFault) → IsInHand conf s hand →
       s.call ≡ Some (CallForeign op answer (Some fault)) → TellsEntry hand (AnswerForeign answer)

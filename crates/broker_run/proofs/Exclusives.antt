@@ -22,8 +22,9 @@ use Rattle.broker_model.specs.Hosted.{Hosted, first_of, log_of, same_name, secon
 use Rattle.broker_model.specs.PartHistory.{IsPartHistory, StepsAlone}
 use Rattle.broker_model.specs.PartHistory.PartAct.{Called}
 use Rattle.broker_model.specs.Shards.{Counts, Ends, PartCall, faults_before, faults_behind}
-use Rattle.broker_model.specs.Shards.PartCall.{Visits, Produces, Looks, Expires}
+use Rattle.broker_model.specs.Shards.PartCall.{Visits, Produces, Looks, Expires, Deletes}
 use Rattle.broker_model.proofs.PartLocks.{exclusive_alone}
+use Rattle.broker_model.proofs.Ungranted.{ungranted}
 use Rattle.broker_shards.specs.Hosts.{Host}
 use Rattle.broker_shards.specs.declared.part.PartEvent.{PartEvent}
 use Rattle.broker_run.specs.Histories.{IsHistory, MovesPart, StepsPart, act_of, steps_of}
@@ -118,6 +119,7 @@ module _ {D : Type 0} (seen : D → DiskView) where
         → StepsAlone (of_host topic old) s (Called did) t
     call_alone now s (Visits visit answer unread) t p = visit_alone now s visit answer unread t p
     call_alone now s (Produces batch produced) t p = (told, log_counts, log_ends, now, p)
+    call_alone now s (Deletes to answer) t p = (told, log_counts, log_ends, now, p)
     call_alone now s (Looks group looked) t p = (told, counts, ends, now, p)
     call_alone now s (Expires answer) t p = (
       told,
@@ -152,5 +154,7 @@ module _ {D : Type 0} (seen : D → DiskView) where
   is_history old new entries leads = record {
     leads = leads;
     exclusive = exclusive_alone (its [] old.0.part.conf) old.1 new.1 (steps_of seen old new entries leads)
+        (part_history [] old.0.part.conf old new entries leads refl);
+    deleted = ungranted (its [] old.0.part.conf) old.1 new.1 (steps_of seen old new entries leads)
         (part_history [] old.0.part.conf old new entries leads refl);
   }

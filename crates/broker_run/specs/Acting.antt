@@ -9,7 +9,7 @@ use Rattle.topic_conf.specs.Configs.{ConfigParts}
 use Rattle.topic_conf.specs.Topics.{partitions}
 use Rattle.msgs_group.specs.declared.heartbeat_reply.HeartbeatReply.{HeartbeatReply}
 use Rattle.call_fold.specs.declared.part.Part.{Part}
-use Rattle.call_fold.specs.declared.part.Part.TheVariants.{Foreign, Produce, Visit, Look, Heartbeat}
+use Rattle.call_fold.specs.declared.part.Part.TheVariants.{Foreign, Produce, Delete, Visit, Look, Heartbeat}
 use Rattle.call_fold.specs.declared.part.PartAnswer.{PartAnswer}
 use Rattle.call_fold.specs.declared.part.PartAnswer.TheVariants as answers
 use Rattle.shard_lock.specs.History.{IsLegal, GoesOn, of_pass, entry}
@@ -85,6 +85,7 @@ pub record ActsByMembers {D : Type 0} (shared : SharedParts D) (event : MembersE
 abbrev pub answer_told : PartTold → Option PartAnswer
 answer_told (part_told.Visit told) = Some (answers.Visit told)
 answer_told (part_told.Produce told) = Some (answers.Produce told)
+answer_told (part_told.Delete told) = Some (answers.Delete told)
 answer_told (part_told.Look told) = Some (answers.Look told)
 answer_told (part_told.Expire told) = None
 
@@ -118,6 +119,7 @@ module _ {D : Type 0} (seen : D → DiskView) where
       (told : ForeignAnswer) × (answer ≡ answers.Foreign told) × ActsByForeign shared (record { op = op }) (Ok told) old new
   DoesPart shared (Produce shard batch) now answer old new =
       DoesByPart shared shard (record { now = now; ask = part_ask.Produce batch }) answer old new
+  DoesPart shared (Delete shard to) now answer old new = DoesByPart shared shard (record { now = now; ask = part_ask.Delete to }) answer old new
   DoesPart shared (Visit shard visit) now answer old new = DoesByPart shared shard (record { now = now; ask = part_ask.Visit visit }) answer old new
   DoesPart shared (Look shard group) now answer old new = DoesByPart shared shard (record { now = now; ask = part_ask.Look group }) answer old new
   DoesPart shared (Heartbeat request) now answer old new = (told : HeartbeatReply) × (answer ≡ answers.Heartbeat told)
@@ -131,6 +133,7 @@ module _ {D : Type 0} (seen : D → DiskView) where
   abbrev pub FailsPart : SharedParts D → Part → (now : ℕ) → PassesParts D → PassesParts D → Type 0
   FailsPart shared (Foreign op) now old new = (fault : NoMemory) × ActsByForeign shared (record { op = op }) (Err fault) old new
   FailsPart shared (Produce shard batch) now old new = FailsByPart shared shard (record { now = now; ask = part_ask.Produce batch }) old new
+  FailsPart shared (Delete shard to) now old new = FailsByPart shared shard (record { now = now; ask = part_ask.Delete to }) old new
   FailsPart shared (Visit shard visit) now old new = FailsByPart shared shard (record { now = now; ask = part_ask.Visit visit }) old new
   FailsPart shared (Look shard group) now old new = FailsByPart shared shard (record { now = now; ask = part_ask.Look group }) old new
   FailsPart shared (Heartbeat request) now old new =

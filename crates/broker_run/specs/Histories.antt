@@ -13,7 +13,7 @@ use Rattle.share_part.specs.Shards.{PartShardState}
 use Rattle.shard_lock.specs.History.{Leads}
 use Rattle.shard_lock.specs.declared.shard.Entry.{Entry}
 use Rattle.broker_model.specs.Acting.{StepsOn}
-use Rattle.broker_model.specs.Locks.{KeepsLocksExclusive}
+use Rattle.broker_model.specs.Locks.{GrantsNothingDeleted, KeepsLocksExclusive}
 use Rattle.broker_model.specs.Machine.{StandWith}
 use Rattle.broker_model.specs.PartHistory.{PartAct, PartStep}
 use Rattle.broker_model.specs.PartHistory.PartAct.{Called, NothingDone}
@@ -82,8 +82,10 @@ steps_of seen old new (e ∷ entries) leads =
     ∷ steps_of seen leads.0 new entries leads.2
 
 -- The entries lead from the one partition and its state to the other, step by step of the machine. Of two grants of one record among them the
--- first lock ends by an entry between them or by the second one's own acknowledgements: an expiry turn's is an entry like any other.
+-- first lock ends by an entry between them or by the second one's own acknowledgements: an expiry turn's is an entry like any other. Nor is one
+-- granted that lies below the log's start.
 pub record IsHistory {D : Type 0} (seen : D → DiskView) (old : Host D × PartShardState) (entries : List (Entry PartEvent PartAnswer))
     (new : Host D × PartShardState) : Type 0 where
   pub leads : Leads (StepsPart seen) old entries new
   pub exclusive : KeepsLocksExclusive old.0.part.conf (steps_of seen old new entries leads)
+  pub deleted : GrantsNothingDeleted old.0.part.conf old.1 (steps_of seen old new entries leads)

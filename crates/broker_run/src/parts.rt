@@ -117,6 +117,7 @@ fn ask_part<R: Wait, D: Disk>(
     match act_on_part(rt, shared, passes, shard, event) {
         Ok(PartTold::Visit(told)) => return Ok(PartAnswer::Visit(told)),
         Ok(PartTold::Produce(told)) => return Ok(PartAnswer::Produce(told)),
+        Ok(PartTold::Delete(told)) => return Ok(PartAnswer::Delete(told)),
         Ok(PartTold::Look(told)) => return Ok(PartAnswer::Look(told)),
         Ok(PartTold::Expire(_)) => unreachable!(),
         Err(fault) => return Err(fault),
@@ -172,6 +173,9 @@ pub fn do_part<R: Wait, D: Disk>(
         },
         Part::Produce { shard, batch } => {
             return ask_part(rt, shared, passes, now, shard, PartAsk::Produce(batch));
+        }
+        Part::Delete { shard, to } => {
+            return ask_part(rt, shared, passes, now, shard, PartAsk::Delete(to));
         }
         Part::Visit { shard, visit } => {
             return ask_part(rt, shared, passes, now, shard, PartAsk::Visit(visit));

@@ -1,15 +1,19 @@
 -- What a crash at a moment of an act finds.
-use Rattle.std.proofs.Common.{◌≡◌, inl, sym, ap, subst, arith, ℕ, List, Result}
+use Rattle.std.proofs.Common.{◌≡◌, inl, sym, ap, subst, arith, ℕ, ℤ, List, Result}
 use Rattle.edge_io.specs.Moments.{LeavesOnly}
 use Rattle.edge_io.specs.Views.{DiskView}
 use Rattle.flex_fields.specs.declared.fault.NoMemory.{NoMemory}
 use Rattle.share_model.specs.Held.{Held}
+use Rattle.share_model.specs.declared.delete.DeleteAnswer.{DeleteAnswer}
+use Rattle.share_model.specs.declared.delete.Placed.{Placed}
 use Rattle.share_model.specs.declared.fault.LogFault.{LogFault}
 use Rattle.share_model.specs.declared.visit.ExpireAnswer.{ExpireAnswer}
 use Rattle.share_model.specs.declared.visit.Visit.{Visit}
 use Rattle.share_model.specs.declared.visit.VisitAnswer.{VisitAnswer}
 use Rattle.part_log.specs.Logs.{LogParts}
+use Rattle.coord_checkpoint.specs.Stores.{StoreParts as JournalParts}
 use Rattle.share_coord.specs.Parts.{StoreParts}
+use Rattle.share_part.specs.Deleting.{DeletesOnce}
 use Rattle.share_part.specs.Once.{ExpiresOnce, ProducesOnce, VisitsOnce}
 use Rattle.share_part.specs.Shards.{PartParts}
 use Rattle.broker_shards.specs.Crashes.{FindsNothingNew, FoundWithin, StatesFindNothingNew}
@@ -30,6 +34,13 @@ module _ {D W : Type 0} (seen : D → DiskView) (holding : W → Held)
     nothing_new old.journal.second.disk new.journal.second.disk (ap (λ (t : StoreParts D). t.journal.second.disk) same),
   )
 
+  -- where the contents are others in memory, and both disks stay
+  new_journals : (old new : StoreParts D) → new.journal ≡ old.journal → StatesFindNothingNew seen old new
+  new_journals old new same = (
+    nothing_new old.journal.first.disk new.journal.first.disk (ap (λ (j : JournalParts D). j.first.disk) same),
+    nothing_new old.journal.second.disk new.journal.second.disk (ap (λ (j : JournalParts D). j.second.disk) same),
+  )
+
   module _ (old new : PartParts D W) (now : ℕ) where
     pub visit_found : (visit : Visit) (result : Result VisitAnswer NoMemory) → VisitsOnce seen holding now visit old new result
         → FoundWithin seen holding now (asks.Visit visit) old new
@@ -38,11 +49,18 @@ module _ {D W : Type 0} (seen : D → DiskView) (holding : W → Held)
       states = λ s k acks then. new_states old.states new.states (once.unwritten s k acks then);
     }
 
-    pub batch_found : (batch : List ℕ) (result : Result ℕ LogFault) → ProducesOnce seen holding now batch old new result
+    pub batch_found : (batch : List ℕ) (result : Result Placed LogFault) → ProducesOnce seen holding now batch old new result
         → FoundWithin seen holding now (asks.Produce batch) old new
     batch_found batch result once = record {
       log = once.any_moment;
       states = new_states old.states new.states once.states;
+    }
+
+    pub delete_found : (to : ℤ) (answer : DeleteAnswer) → DeletesOnce seen holding now to old new answer
+        → FoundWithin seen holding now (asks.Delete to) old new
+    delete_found to answer once = record {
+      log = once.any_moment;
+      states = new_journals old.states new.states once.states;
     }
 
     pub expiry_found : (result : Result ExpireAnswer NoMemory) → ExpiresOnce seen holding now old new result

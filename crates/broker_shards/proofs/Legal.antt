@@ -4,7 +4,7 @@ use Rattle.share_model.specs.Held.{Held}
 use Rattle.edge_io.specs.Views.{DiskView}
 use Rattle.share_part.specs.Shards.{PartParts}
 use Rattle.broker_model.specs.Shards.{PartCall}
-use Rattle.broker_model.specs.Shards.PartCall.{Visits, Produces, Looks, Expires}
+use Rattle.broker_model.specs.Shards.PartCall.{Visits, Produces, Looks, Expires, Deletes}
 use Rattle.shard_lock.specs.declared.shard.Entry.{Entry}
 use Rattle.shard_lock.specs.History.{Leads}
 use Rattle.broker_shards.specs.Acts.{Answers, CanBeTold, asked_by, told_by}
@@ -21,6 +21,7 @@ last_acts acts s t (d ∷ es) e l = last_acts acts l.0 t es e l.2
 of_kind : (did : PartCall) → CanBeTold did → IsToldOf (asked_by did) (told_by did)
 of_kind (Visits visit answer unread) fair = (answer, refl, fair)
 of_kind (Produces batch produced) fair = (produced, refl, fair)
+of_kind (Deletes to answer) fair = (answer, refl, fair)
 of_kind (Looks group looked) fair = (looked, refl, fair)
 of_kind (Expires answer) fair = (answer, refl)
 

@@ -1,5 +1,5 @@
 -- Calls on a partition as acts.
-use Rattle.std.proofs.Common.{◌≡◌, ◌≢◌, ◌≤◌, arith, refl, sym, ap, ◌∙◌, subst, ℕ, List, Bool, true, Result, Err}
+use Rattle.std.proofs.Common.{◌≡◌, ◌≢◌, ◌≤◌, arith, refl, sym, ap, ◌∙◌, subst, ℕ, ℤ, List, Bool, true, Result, Err}
 use Rattle.std.specs.List.{AllByRecursion}
 use Rattle.edge_io.specs.Armed.{RunsOn}
 use Rattle.edge_io.specs.Disk.{IsTold}
@@ -8,6 +8,9 @@ use Rattle.edge_io.proofs.Runs.{runs_none}
 use Rattle.flex_fields.specs.declared.fault.NoMemory.{NoMemory as want}
 use Rattle.share_model.specs.ForeignRules.{share_state_at}
 use Rattle.share_model.specs.Held.{Held}
+use Rattle.share_model.specs.declared.delete.DeleteAnswer.{DeleteAnswer}
+use Rattle.share_model.specs.declared.delete.DeleteAnswer.TheVariants.{Store as Unraised}
+use Rattle.share_model.specs.declared.delete.Placed.{Placed}
 use Rattle.share_model.specs.declared.fault.LogFault.{LogFault}
 use Rattle.share_model.specs.declared.fault.LogFault.TheVariants.{Store, NoMemory}
 use Rattle.share_model.specs.declared.fault.StoreFault.TheVariants.{Device}
@@ -17,9 +20,12 @@ use Rattle.share_model.specs.declared.visit.VisitAnswer.{VisitAnswer}
 use Rattle.gate_journal.specs.declared.writer.Writer.{Writer}
 use Rattle.part_log.specs.Logs.{LogParts, OnlyReads}
 use Rattle.part_log.specs.Shards.{CarriesLog, log_at}
+use Rattle.coord_checkpoint.specs.Stores.{StoreParts as JournalParts}
 use Rattle.share_coord.specs.Parts.{StoreParts}
+use Rattle.share_coord.specs.Unwritten.{AreLevel}
 use Rattle.share_coord.specs.Holding.{Holds}
 use Rattle.share_coord.specs.States.{states_of}
+use Rattle.share_part.specs.Deleting.{Deleted, IsTellableDelete}
 use Rattle.share_part.specs.Failures.{RunOnBoth}
 use Rattle.share_part.specs.Hosting.{PartConfParts, AreHosted, key_of}
 use Rattle.share_part.specs.Once.{Expired, Produced as ProducedSo, ReadsBatches, Visited}
@@ -29,8 +35,8 @@ use Rattle.call_fold.specs.Parts.{HasTellableBase, IsTellableLook}
 use Rattle.call_fold.specs.declared.part.Looked.{Looked}
 use Rattle.call_fold.specs.declared.part.Produced.{Produced}
 use Rattle.broker_model.specs.Shards.{look_at, result_of}
-use Rattle.broker_model.specs.Shards.PartCall.{Visits, Produces, Looks, Expires}
-use Rattle.broker_model.proofs.Quiets.{steps_batch, steps_still, steps_visit}
+use Rattle.broker_model.specs.Shards.PartCall.{Visits, Produces, Looks, Expires, Deletes}
+use Rattle.broker_model.proofs.Quiets.{steps_batch, steps_delete, steps_still, steps_visit}
 use Rattle.broker_shards.specs.Acts.{ActsOnPart, ActsPart, Answers, FindsNoMemory, GoesOnPart}
 use Rattle.broker_shards.specs.Crashes.{FoundWithin}
 use Rattle.broker_shards.specs.Hosts.{Host, Window, holding}
@@ -39,7 +45,7 @@ use Rattle.broker_shards.specs.declared.part.PartEvent.{PartEvent}
 use Rattle.broker_shards.specs.declared.part.PartTold.{PartTold}
 use Rattle.broker_shards.specs.declared.part.PartAsk.TheVariants as asks
 use Rattle.broker_shards.specs.declared.part.PartTold.TheVariants as tells
-use Rattle.broker_shards.proofs.Telling.{grants_told, not_memory}
+use Rattle.broker_shards.proofs.Telling.{grants_told, not_memory, start_told}
 
 module _ {D W : Type 0} (seen : D → DiskView) (holding : W → Held) (old new : PartParts D W) where
   -- ---- what goes on
@@ -66,15 +72,15 @@ module _ {D W : Type 0} (seen : D → DiskView) (holding : W → Held) (old new 
   pub read_ends : OnlyReads seen old.log new.log → new.log.journal.end ≡ old.log.journal.end
   read_ends only = ap (λ (w : Writer D). w.end) only.journal.rest
 
-  pub log_goes : (conf : new.conf ≡ old.conf) (log : RunsOn seen old.log.journal.disk new.log.journal.disk) (states : new.states ≡ old.states)
+  pub log_goes : (conf : new.conf ≡ old.conf) (log : RunsOn seen old.log.journal.disk new.log.journal.disk) (states : new.states.journal ≡ old.states.journal)
       (ends : (s : PartShardState) → Carries seen holding old s → old.log.journal.end ≤ new.log.journal.end)
       → GoesOnPart seen holding old new
   log_goes conf log states ends = record {
     conf = conf;
     log = log;
-    first = subst (λ (t : StoreParts D). RunsOn seen old.states.journal.first.disk t.journal.first.disk) (sym states)
+    first = subst (λ (j : JournalParts D). RunsOn seen old.states.journal.first.disk j.first.disk) (sym states)
         (runs_none seen old.states.journal.first.disk);
-    second = subst (λ (t : StoreParts D). RunsOn seen old.states.journal.second.disk t.journal.second.disk) (sym states)
+    second = subst (λ (j : JournalParts D). RunsOn seen old.states.journal.second.disk j.second.disk) (sym states)
         (runs_none seen old.states.journal.second.disk);
     ends = λ s k. record { log = ends s k };
   }
@@ -103,11 +109,11 @@ module _ {D W : Type 0} (seen : D → DiskView) (holding : W → Held) (old new 
   }
 
   -- where no device fault is told, no call of the log's disk failed
-  abbrev Quiet : Result ℕ LogFault → Type 0
+  abbrev Quiet : Result Placed LogFault → Type 0
   Quiet result = result ≢ Err (Store Device) → IsTold (seen old.log.journal.disk).content
       → (seen new.log.journal.disk).faults ≡ (seen old.log.journal.disk).faults
 
-  pub added : (now : ℕ) (batch : List ℕ) (result : Result ℕ LogFault) (produced : Produced) → result_of produced ≡ result → HasTellableBase produced
+  pub added : (now : ℕ) (batch : List ℕ) (result : Result Placed LogFault) (produced : Produced) → result_of produced ≡ result → HasTellableBase produced
       → Quiet result → (result ≢ Err NoMemory → ProducedSo seen holding now batch old new result)
       → Answers seen holding now (asks.Produce batch) (tells.Produce produced) old new
   added now batch result produced is fair quiet steps = record {
@@ -116,8 +122,23 @@ module _ {D W : Type 0} (seen : D → DiskView) (holding : W → Held) (old new 
     tells = refl;
     tellable = fair;
     steps = λ s k.
-        let r = subst (λ (x : Result ℕ LogFault). ProducedSo seen holding now batch old new x) (sym is) (steps (not_memory produced result is)) s k in
+        let r = subst (λ (x : Result Placed LogFault). ProducedSo seen holding now batch old new x) (sym is) (steps (not_memory produced result is)) s k in
         (r.0, r.1, steps_batch seen old new old.conf now s r.0 batch produced (subst Quiet (sym is) quiet) r.2);
+  }
+
+  -- the same of a delete
+  abbrev QuietDelete : DeleteAnswer → Type 0
+  QuietDelete answer = answer ≢ Unraised Device → IsTold (seen old.log.journal.disk).content
+      → (seen new.log.journal.disk).faults ≡ (seen old.log.journal.disk).faults
+
+  pub deleted : (now : ℕ) (to : ℤ) (answer : DeleteAnswer) → IsTellableDelete answer → QuietDelete answer
+      → Deleted seen holding now to old new answer → Answers seen holding now (asks.Delete to) (tells.Delete answer) old new
+  deleted now to answer below quiet steps = record {
+    did = Deletes to answer;
+    asks = refl;
+    tells = refl;
+    tellable = start_told answer below;
+    steps = λ s k. let r = steps s k in (r.0, r.1, steps_delete seen old new old.conf now s r.0 to answer quiet r.2);
   }
 
   -- ---- want of memory
@@ -134,7 +155,8 @@ module _ {D W : Type 0} (seen : D → DiskView) (holding : W → Held) (old new 
     clock = k.clock ∙ sym same.clock;
     hosted = subst (λ (p : PartConfParts). AreHosted p (log_at s.log) s.states) (sym same.conf) k.hosted;
     pending_hosted = subst (λ (p : PartConfParts). IsPendingHosted p (log_at s.log) s.pending) (sym same.conf) k.pending_hosted;
-    unmarked = k.unmarked;
+    level = subst (λ (t : StoreParts D). AreLevel s.log.start t.entries) (sym same.states) k.level;
+    pending_level = k.pending_level;
   }
 
   pub call_refused : new ≡ old → FindsNoMemory seen holding old new

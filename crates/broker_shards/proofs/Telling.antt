@@ -1,25 +1,35 @@
 -- What a reply can tell of runs that are stored, and of grants that were taken.
-use Rattle.std.proofs.Common.{◌≡◌, ◌≢◌, ◌∙◌, arith, List, [], ◌∷◌, ℕ, Result, Ok, Err}
+use Rattle.std.proofs.Common.{◌≡◌, ◌≢◌, ◌∙◌, arith, List, [], ◌∷◌, Result, Ok, Err}
 use Rattle.std.specs.List.{AllByRecursion}
 use Rattle.std.specs.Prelude.{All}
 use Rattle.std.proofs.lemmas.List.Elements.{All-from_recursion}
 use Rattle.share_model.specs.Runs.{IsCanonical}
+use Rattle.share_model.specs.declared.delete.DeleteAnswer.{DeleteAnswer}
+use Rattle.share_model.specs.declared.delete.DeleteAnswer.TheVariants.{Done, OutOfRange, Store as Unraised}
+use Rattle.share_model.specs.declared.delete.Placed.{Placed}
 use Rattle.share_model.specs.declared.fault.LogFault.{LogFault}
 use Rattle.share_model.specs.declared.fault.LogFault.TheVariants.{Batch as BadBatch, Store as Unstored, NoMemory}
 use Rattle.share_model.specs.declared.hold.Grant.{Grant}
 use Rattle.share_model.specs.declared.run.Run.{Run}
 use Rattle.state_records.specs.States.{AreStoredRuns, IsStoredRun}
+use Rattle.share_part.specs.Deleting.{IsTellableDelete}
 use Rattle.share_part.specs.Walks.{IsSmallGrant}
-use Rattle.call_fold.specs.Parts.{IsTellable, IsTellableGrant}
+use Rattle.call_fold.specs.Parts.{HasTellableStart, IsTellable, IsTellableGrant}
 use Rattle.call_fold.specs.declared.part.Produced.{Produced}
 use Rattle.call_fold.specs.declared.part.Produced.TheVariants.{Base, Batch, Store}
 use Rattle.broker_model.specs.Shards.{result_of}
 
 -- an answer isn't want of memory
-pub not_memory : (produced : Produced) (added : Result ℕ LogFault) → result_of produced ≡ added → added ≢ Err NoMemory
-not_memory (Base base) added e f = let bad : ◌≡◌ {A = Result ℕ LogFault} (Ok base) (Err NoMemory) = e ∙ f in cc
-not_memory (Batch fault) added e f = let bad : ◌≡◌ {A = Result ℕ LogFault} (Err (BadBatch fault)) (Err NoMemory) = e ∙ f in cc
-not_memory (Store fault) added e f = let bad : ◌≡◌ {A = Result ℕ LogFault} (Err (Unstored fault)) (Err NoMemory) = e ∙ f in cc
+pub not_memory : (produced : Produced) (added : Result Placed LogFault) → result_of produced ≡ added → added ≢ Err NoMemory
+not_memory (Base base) added e f = let bad : ◌≡◌ {A = Result Placed LogFault} (Ok base) (Err NoMemory) = e ∙ f in cc
+not_memory (Batch fault) added e f = let bad : ◌≡◌ {A = Result Placed LogFault} (Err (BadBatch fault)) (Err NoMemory) = e ∙ f in cc
+not_memory (Store fault) added e f = let bad : ◌≡◌ {A = Result Placed LogFault} (Err (Unstored fault)) (Err NoMemory) = e ∙ f in cc
+
+-- where a log starts is an offset that a reply can say
+pub start_told : (answer : DeleteAnswer) → IsTellableDelete answer → HasTellableStart answer
+start_told (Done start) below = omega (arith, below)
+start_told (OutOfRange end) below = tt
+start_told (Unraised fault) below = tt
 
 each_small : (grants : List Grant) → AllByRecursion IsSmallGrant grants → AllByRecursion IsTellableGrant grants
 each_small [] a = tt

@@ -10,7 +10,7 @@ use Rattle.share_model.specs.Held.{Held}
 use Rattle.share_model.specs.declared.fault.StoreFault.{StoreFault}
 use Rattle.share_model.specs.declared.foreign.ForeignAnswer.{ForeignAnswer}
 use Rattle.share_model.specs.declared.foreign.ForeignOp.{ForeignOp}
-use Rattle.call_fold.specs.Parts.{HasTellableBase, IsTellable, IsTellableLook, IsTellableVisit}
+use Rattle.call_fold.specs.Parts.{HasTellableBase, HasTellableStart, IsTellable, IsTellableLook, IsTellableVisit}
 use Rattle.share_coord.specs.Parts.{StoreParts}
 use Rattle.edge_io.specs.Moments.{LeavesPairs}
 use Rattle.foreign_coord.specs.Once.{HasRisen}
@@ -20,7 +20,7 @@ use Rattle.share_members.specs.Expiry.{removed}
 use Rattle.share_part.specs.Shards.{PartParts, PartShardState, Carries}
 use Rattle.broker_model.specs.Acting.{EndsGoOn, StepsOn}
 use Rattle.broker_model.specs.Shards.{PartCall, StepsMembers}
-use Rattle.broker_model.specs.Shards.PartCall.{Visits, Produces, Looks, Expires}
+use Rattle.broker_model.specs.Shards.PartCall.{Visits, Produces, Looks, Expires, Deletes}
 use Rattle.broker_model.specs.Shards.MembersCall.{Beats, Ticks}
 use Rattle.broker_shards.specs.declared.foreign.ForeignEvent.{ForeignEvent}
 use Rattle.broker_shards.specs.declared.foreign.ForeignHost.{ForeignHost}
@@ -46,6 +46,7 @@ asked_by (Visits visit answer unread) = asks.Visit visit
 asked_by (Produces batch produced) = asks.Produce batch
 asked_by (Looks group looked) = asks.Look group
 asked_by (Expires answer) = asks.Expire
+asked_by (Deletes to answer) = asks.Delete to
 
 -- and what it is told
 abbrev pub told_by : PartCall → PartTold
@@ -53,6 +54,7 @@ told_by (Visits visit answer unread) = tells.Visit answer
 told_by (Produces batch produced) = tells.Produce produced
 told_by (Looks group looked) = tells.Look looked
 told_by (Expires answer) = tells.Expire answer
+told_by (Deletes to answer) = tells.Delete answer
 
 -- a reply can say its numbers
 abbrev pub CanBeTold : PartCall → Type 0
@@ -60,6 +62,7 @@ CanBeTold (Visits visit answer unread) = IsTellableVisit answer
 CanBeTold (Produces batch produced) = HasTellableBase produced
 CanBeTold (Looks group looked) = IsTellableLook looked
 CanBeTold (Expires answer) = Unit {0}
+CanBeTold (Deletes to answer) = HasTellableStart answer
 
 -- What was asked is a call of the machine, and so is what was told. From each state that was carried, one is carried now to which this call's
 -- step leads.

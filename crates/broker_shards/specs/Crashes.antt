@@ -1,5 +1,5 @@
 -- What a crash finds on the disks of a shard behind a lock, at each moment since an act on it began. This project's own. Each disk that an
--- act doesn't write keeps to what it could be found with before. A produced batch, or a call on foreign state, stores one record, and is found done
+-- act doesn't write keeps to what it could be found with before. A produced batch, a delete, or a call on foreign state stores one record, and is found done
 -- or not done; a visit or an expiry may write several times, and what is found at a moment between is said of each write alone, by
 -- the crate that makes it. What is found behind any act stands for the state that the history has then.
 -- For example while a batch is produced, the log of three records is found with or without what was pending, or with the batch, and on the two
@@ -8,9 +8,10 @@ use Rattle.std.specs.Prelude.{◌⊎◌, ℕ, Some, max}
 use Rattle.edge_io.specs.Moments.{LeavesOnly}
 use Rattle.edge_io.specs.Views.{DiskView}
 use Rattle.share_model.specs.Held.{Held}
-use Rattle.part_log.specs.Shards.{IsLogOf, at_end}
+use Rattle.part_log.specs.Shards.{IsLogOf, at_end, log_at}
 use Rattle.part_log.specs.Starts.LogWrite.{Adds}
 use Rattle.share_coord.specs.Parts.{StoreParts}
+use Rattle.share_part.specs.Deleting.{IsToDelete, and_mark}
 use Rattle.share_part.specs.Following.{HasNothingToWrite}
 use Rattle.share_part.specs.Once.{IsNothingDue}
 use Rattle.share_part.specs.Shards.{Carries, PartParts, PartShardState}
@@ -22,11 +23,15 @@ use Rattle.broker_shards.specs.declared.part.PartAsk.TheVariants as asks
 abbrev pub FindsNothingNew : {D : Type 0} → (D → DiskView) → D → D → Type 0
 FindsNothingNew seen old new = LeavesOnly seen old new (seen old).image
 
--- on the disk of the log: with a batch, the log that was carried, with or without its pending batch, or with this one
+-- on the disk of the log: with a batch, the log that was carried, with or without its pending write, or with this one; with a delete, that log or the
+-- one that starts at the target
 abbrev pub FoundOnLog : {D W : Type 0} → (D → DiskView) → (W → Held) → PartAsk → PartParts D W → PartParts D W → Type 0
 FoundOnLog seen holding (asks.Produce batch) old new = (s : PartShardState) → Carries seen holding old s →
     LeavesOnly seen old.log.journal.disk new.log.journal.disk
     (λ c. IsLogOf s.log c ⊎ IsLogOf (record { batches = s.log.batches; start = s.log.start; pending = Some (Adds (at_end s.log.batches batch)) }) c)
+FoundOnLog seen holding (asks.Delete to) old new = (s : PartShardState) → Carries seen holding old s →
+    LeavesOnly seen old.log.journal.disk new.log.journal.disk
+    (λ c. IsLogOf s.log c ⊎ ((target : ℕ) × IsToDelete (log_at s.log) to target × IsLogOf (and_mark s.log target) c))
 FoundOnLog seen holding (asks.Visit visit) old new = FindsNothingNew seen old.log.journal.disk new.log.journal.disk
 FoundOnLog seen holding (asks.Look group) old new = FindsNothingNew seen old.log.journal.disk new.log.journal.disk
 FoundOnLog seen holding asks.Expire old new = FindsNothingNew seen old.log.journal.disk new.log.journal.disk
@@ -41,6 +46,7 @@ abbrev pub FoundOnStates : {D W : Type 0} → (D → DiskView) → (W → Held) 
 FoundOnStates seen holding now (asks.Visit visit) old new = (s : PartShardState) → Carries seen holding old s → (AreToWrite s visit → ⊥)
     → HasNothingToWrite old.conf s visit visit.then → StatesFindNothingNew seen old.states new.states
 FoundOnStates seen holding now (asks.Produce batch) old new = StatesFindNothingNew seen old.states new.states
+FoundOnStates seen holding now (asks.Delete to) old new = StatesFindNothingNew seen old.states new.states
 FoundOnStates seen holding now (asks.Look group) old new = StatesFindNothingNew seen old.states new.states
 FoundOnStates seen holding now asks.Expire old new =
     IsNothingDue holding old.windows (max old.clock now) → StatesFindNothingNew seen old.states new.states

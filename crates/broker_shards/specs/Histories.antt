@@ -3,9 +3,10 @@
 use Rattle.std.specs.Prelude.{◌≡◌, ◌++◌, ◌∷◌, [], List, ℕ}
 use Rattle.edge_io.specs.Views.{DiskView}
 use Rattle.share_model.specs.Held.{Held}
+use Rattle.share_model.specs.declared.delete.DeleteAnswer.{DeleteAnswer}
 use Rattle.share_model.specs.declared.visit.ExpireAnswer.{ExpireAnswer}
 use Rattle.share_model.specs.declared.visit.VisitAnswer.{VisitAnswer}
-use Rattle.call_fold.specs.Parts.{HasTellableBase, IsTellableLook, IsTellableVisit}
+use Rattle.call_fold.specs.Parts.{HasTellableBase, HasTellableStart, IsTellableLook, IsTellableVisit}
 use Rattle.call_fold.specs.declared.part.Looked.{Looked}
 use Rattle.call_fold.specs.declared.part.Produced.{Produced}
 use Rattle.share_part.specs.Shards.{PartParts}
@@ -27,6 +28,7 @@ module _ {S E A : Type 0} where
 abbrev pub IsToldOf : PartAsk → PartTold → Type 0
 IsToldOf (asks.Visit visit) told = (answer : VisitAnswer) × (told ≡ tells.Visit answer) × IsTellableVisit answer
 IsToldOf (asks.Produce batch) told = (produced : Produced) × (told ≡ tells.Produce produced) × HasTellableBase produced
+IsToldOf (asks.Delete to) told = (answer : DeleteAnswer) × (told ≡ tells.Delete answer) × HasTellableStart answer
 IsToldOf (asks.Look group) told = (looked : Looked) × (told ≡ tells.Look looked) × IsTellableLook looked
 IsToldOf asks.Expire told = (answer : ExpireAnswer) × (told ≡ tells.Expire answer)
 

@@ -9,7 +9,7 @@ use crate::told::{looked, produced};
 use call_fold::{Looked, Produced};
 use edge_io::Disk;
 use shard_lock::Shard;
-use share_model::{Blob, ExpireAnswer, Name, NoMemory, Visit, VisitAnswer};
+use share_model::{Blob, DeleteAnswer, ExpireAnswer, Name, NoMemory, Visit, VisitAnswer};
 use share_part::{PartConf, PartShard};
 use std::alloc::Global;
 use std::marker::Model;
@@ -25,6 +25,8 @@ pub enum PartAsk {
     Visit(Visit),
     /// A record batch for the log, as a producer sends it.
     Produce(Blob),
+    /// The records below an offset are to be deleted, -1 standing for the log's end.
+    Delete(i64),
     /// The stored state of a group.
     Look(Name),
     /// All records whose acquisition lock has ended are to be given back.
@@ -43,6 +45,7 @@ pub struct PartEvent {
 pub enum PartTold {
     Visit(VisitAnswer),
     Produce(Produced),
+    Delete(DeleteAnswer),
     Look(Looked),
     Expire(ExpireAnswer),
 }
@@ -97,6 +100,19 @@ fn produce<D: Disk>(
     }
 }
 
+fn delete<D: Disk>(
+    now: u64,
+    to: i64,
+    part: &mut PartShard<D, PartWindow>,
+) -> Result<PartTold, NoMemory>
+    requires { now ≤ 2 ^ 62 }
+    ensures acts { ActsOnPart D.seen holding now (PartAsk.Delete to) part.old result part.new }
+    ensures goes_on { GoesOnPart D.seen holding part.old part.new }
+    ensures within { FoundWithin D.seen holding now (PartAsk.Delete to) part.old part.new }
+{
+    Ok(PartTold::Delete(part.delete(now, to)))
+}
+
 fn look<D: Disk>(
     alloc: Global,
     group: &Name,
@@ -137,6 +153,7 @@ impl<D: Disk> Shard for PartHost<D> {
         match &event.ask {
             PartAsk::Visit(asked) => visit(now, asked, &mut self.part),
             PartAsk::Produce(batch) => produce(now, batch.as_slice(), &mut self.part),
+            PartAsk::Delete(to) => delete(now, *to, &mut self.part),
             PartAsk::Look(group) => look(self.alloc, group, &self.part),
             PartAsk::Expire => expire(now, &mut self.part),
         }

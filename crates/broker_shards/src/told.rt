@@ -10,20 +10,20 @@ use crate::part::PartWindow;
 use call_fold::{Looked, Produced};
 use edge_io::Disk;
 use flex_fields::Items;
-use share_model::{LogFault, Name, NoMemory};
+use share_model::{LogFault, Name, NoMemory, Placed};
 use share_part::PartShard;
 use std::alloc::Global;
 
 /// What is told of a batch that was added or refused.
-pub fn produced(added: Result<u64, LogFault>) -> Result<Produced, NoMemory>
+pub fn produced(added: Result<Placed, LogFault>) -> Result<Produced, NoMemory>
     requires not_behind { (end : ℕ) → added ≢ Err (LogFault.Behind end) }
-    requires below { IfOk added (λ base. base ≤ 2 ^ 62) }
+    requires below { IfOk added (λ placed. (placed.base ≤ 2 ^ 62) × (placed.start ≤ 2 ^ 62)) }
     ensures ok { IfOk result (λ produced. result_of produced ≡ added) }
     ensures tellable { IfOk result HasTellableBase }
     ensures memory { OnErr result (added ≡ Err LogFault.NoMemory) }
 {
     match added {
-        Ok(base) => Ok(Produced::Base(base)),
+        Ok(placed) => Ok(Produced::Base(placed)),
         Err(LogFault::Batch(fault)) => Ok(Produced::Batch(fault)),
         Err(LogFault::Store(fault)) => Ok(Produced::Store(fault)),
         Err(LogFault::NoMemory) => Err(NoMemory),

@@ -1,6 +1,7 @@
 use msgs_group::{HeartbeatReply, HeartbeatRequest};
 use share_model::{
-    BatchFault, Blob, ForeignAnswer, ForeignOp, Name, RunList, StoreFault, Visit, VisitAnswer,
+    BatchFault, Blob, DeleteAnswer, ForeignAnswer, ForeignOp, Name, Placed, RunList, StoreFault,
+    Visit, VisitAnswer,
 };
 
 /// One event on one shard.
@@ -10,6 +11,8 @@ pub enum Part {
     Foreign(ForeignOp),
     /// A record batch for the log of a hosted partition, by the number of its shard. The batch isn't judged yet.
     Produce { shard: u32, batch: Blob },
+    /// The records of a hosted partition below an offset are to be deleted, -1 standing for the log's end.
+    Delete { shard: u32, to: i64 },
     /// Acknowledgements of a member on a hosted partition, and what follows them.
     Visit { shard: u32, visit: Visit },
     /// The stored state of a group on a hosted partition.
@@ -21,8 +24,8 @@ pub enum Part {
 /// What a log says to a batch.
 #[derive(Clone, Copy)]
 pub enum Produced {
-    /// It is stored, and begins at this offset.
-    Base(u64),
+    /// It is stored there.
+    Base(Placed),
     /// It is no batch that a producer may send.
     Batch(BatchFault),
     /// It couldn't be stored.
@@ -48,6 +51,7 @@ pub enum Looked {
 pub enum PartAnswer {
     Foreign(ForeignAnswer),
     Produce(Produced),
+    Delete(DeleteAnswer),
     Visit(VisitAnswer),
     Look(Looked),
     Heartbeat(HeartbeatReply),

@@ -10,6 +10,9 @@ use Rattle.topic_conf.specs.Configs.{ConfigParts}
 use Rattle.topic_conf.specs.declared.topic.Topic.{Topic}
 use Rattle.topic_conf.specs.Topics.{shard_at, partitions}
 use Rattle.topic_conf.proofs.Shards.{shard_below}
+use Rattle.msgs_base.specs.declared.delete_records_request.DeleteRecordsPartition.{DeleteRecordsPartition}
+use Rattle.msgs_base.specs.declared.delete_records_request.DeleteRecordsTopic.{DeleteRecordsTopic}
+use Rattle.msgs_base.specs.declared.delete_records_request.DeleteRecordsRequest.{DeleteRecordsRequest}
 use Rattle.msgs_base.specs.declared.produce_request.ProducePartition.{ProducePartition}
 use Rattle.msgs_base.specs.declared.produce_request.ProduceTopic.{ProduceTopic}
 use Rattle.msgs_base.specs.declared.produce_request.ProduceRequest.{ProduceRequest}
@@ -33,6 +36,8 @@ use Rattle.state_calls.specs.States.{StateMeans, is_group, is_hosted, hosted_fat
 use Rattle.state_calls.specs.StateCalls.{state_acts, state_body, hand_of}
 use Rattle.state_calls.specs.StateTalks.{state_talk}
 use Rattle.log_calls.specs.Produce.{Fate as ProduceFate, fate as produce_fate, fate_of as produce_fate_of, id_named, shard_in, entry_of as offer_of, topic_entries as offers_in, produce_acts, hand_of as produce_hand}
+use Rattle.log_calls.specs.Delete.{delete_acts, target_entries, target_entry, target_shape}
+use Rattle.log_calls.specs.DeleteTalks.{delete_talk}
 use Rattle.log_calls.specs.Produce.Fate.{refuses, offers}
 use Rattle.log_calls.specs.ProduceTalks.{produce_talk}
 use Rattle.log_calls.specs.Codes.{request_refusal}
@@ -152,6 +157,26 @@ module _ (topics : List Topic) where
   produce_hosted m = stage_hosted produce_acts (partitions topics) (produce_hand m) (flat_map (offers_in topics (request_refusal m.acks m.transactional_id)) m.topic_data)
       (groups_hosted produce_acts (partitions topics) (offers_in topics (request_refusal m.acks m.transactional_id)) m.topic_data
       (offers_hosted (request_refusal m.acks m.transactional_id)))
+
+-- ---- DeleteRecords
+
+module _ (topics : List Topic) where
+  target_hosted : (p : DeleteRecordsPartition) (o : Option ℕ) → ((shard : ℕ) → o ≡ Some shard → shard < partitions topics) →
+      EntryHosted delete_acts (partitions topics) (target_entry p o)
+  target_hosted p None h = tt
+  target_hosted p (Some shard) h = λ call. h shard refl
+
+  targets_hosted : (t : DeleteRecordsTopic) → All (EntryHosted delete_acts (partitions topics)) (target_entries topics t)
+  targets_hosted t = All-map (EntryHosted delete_acts (partitions topics)) (λ (p : DeleteRecordsPartition). target_entry p (shard_in topics (id_named topics t.name) p.partition_index)) t.partitions
+      (λ k d within. own (slice_index_or t.partitions k d))
+    where
+      own : (p : DeleteRecordsPartition) → EntryHosted delete_acts (partitions topics) (target_entry p (shard_in topics (id_named topics t.name) p.partition_index))
+      own p = target_hosted p (shard_in topics (id_named topics t.name) p.partition_index)
+          (λ shard e. named_below topics (id_named topics t.name) p.partition_index shard e)
+
+  pub delete_records_hosted : (m : DeleteRecordsRequest) → AsksHosted (partitions topics) (delete_talk topics m)
+  delete_records_hosted m = stage_hosted delete_acts (partitions topics) (record { shape = map target_shape m.topics }) (flat_map (target_entries topics) m.topics)
+      (groups_hosted delete_acts (partitions topics) (target_entries topics) m.topics targets_hosted)
 
 -- ---- share requests
 

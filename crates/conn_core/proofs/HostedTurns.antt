@@ -13,6 +13,7 @@ use Rattle.msgs_base.specs.ApiVersionsOldReply.{api_versions_old_reply}
 use Rattle.msgs_base.specs.ApiVersionsRequest.{api_versions_request}
 use Rattle.msgs_base.specs.MetadataRequest.{metadata_request}
 use Rattle.msgs_base.specs.FindCoordinatorRequest.{find_coordinator_request}
+use Rattle.msgs_base.specs.DeleteRecordsRequest.{delete_records_request}
 use Rattle.msgs_base.specs.ProduceRequest.{produce_request}
 use Rattle.msgs_share.specs.ShareFetchRequest.{share_fetch_request}
 use Rattle.msgs_share.specs.ShareAckRequest.{share_ack_request}
@@ -39,7 +40,7 @@ use Rattle.share_session.specs.declared.step.PlanStep.{PlanStep}
 use Rattle.share_session.specs.SessionParts.{SessionParts}
 use Rattle.share_calls.specs.Changes.{changed}
 use Rattle.conn_core.specs.declared.api.Api.{Api}
-use Rattle.conn_core.specs.declared.api.Api.TheVariants.{Produce, Metadata, FindCoordinator, ApiVersions}
+use Rattle.conn_core.specs.declared.api.Api.TheVariants.{Produce, Metadata, FindCoordinator, ApiVersions, DeleteRecords}
 use Rattle.conn_core.specs.declared.api.Api.TheVariants.{ShareGroupHeartbeat, ShareFetch, ShareAcknowledge, InitializeState, ReadState, WriteState, DeleteState}
 use Rattle.conn_core.specs.declared.begun.Begun.{Begun}
 use Rattle.conn_core.specs.declared.hand.Hand.{Hand}
@@ -56,7 +57,7 @@ use Rattle.conn_core.specs.Versions.{old_versions_answer}
 use Rattle.conn_core.specs.Stream.{front_of, frame_at, behind_frame}
 use Rattle.conn_core.specs.Frames.{reply_frame}
 use Rattle.conn_core.specs.Hands.{hand_stage_after}
-use Rattle.conn_core.specs.Beginning.{metadata_begins, coordinator_begins, versions_begins, produce_begins, fetch_begins, acknowledge_begins}
+use Rattle.conn_core.specs.Beginning.{metadata_begins, coordinator_begins, versions_begins, produce_begins, delete_records_begins, fetch_begins, acknowledge_begins}
 use Rattle.conn_core.specs.Beginning.{heartbeat_begins, initialize_begins, read_begins, write_begins, delete_begins}
 use Rattle.conn_core.specs.Judging.{message_at, message_verdict, reply_verdict, body_verdict, head_verdict, api_verdict, is_other_version, call_verdict, start_verdict, verdict}
 use Rattle.conn_core.specs.Conns.{ConnParts, conn_after_bytes_at, conn_after_end_at, conn_after_end, taken_up}
@@ -68,7 +69,7 @@ use Rattle.conn_core.specs.Streams.Act.{feeds, asks, gives, ends, takes}
 use Rattle.conn_core.specs.HostedShards.{AsksHosted, IsHostedWork, HasHosted, AreHostedIn, NextIsHosted, AsksHostedShards}
 use Rattle.conn_core.proofs.Talking.{keeps_to_talk}
 use Rattle.conn_core.proofs.WithinShards.{StepBelow, releases_below}
-use Rattle.conn_core.proofs.HostedParts.{state_hosted, produce_hosted, fetch_hosted, fetch_leaves, ack_hosted, ack_leaves, SessionsHosted}
+use Rattle.conn_core.proofs.HostedParts.{state_hosted, produce_hosted, delete_records_hosted, fetch_hosted, fetch_leaves, ack_hosted, ack_leaves, SessionsHosted}
 
 module _ (conf : ConfigParts) where
   abbrev count : ℕ
@@ -99,6 +100,10 @@ module _ (conf : ConfigParts) where
         message_hosted (produce_begins conf sessions)
         (λ m. record { stage = subst (AsksHosted count) (sym (keeps_to_talk.produce conf sessions m)) (produce_hosted conf.topics m); leaves = all })
         true correlation (message_at produce_request at)
+    body_hosted DeleteRecords correlation at =
+        message_hosted (delete_records_begins conf sessions)
+        (λ m. record { stage = subst (AsksHosted count) (sym (keeps_to_talk.delete_records conf sessions m)) (delete_records_hosted conf.topics m); leaves = all })
+        true correlation (message_at delete_records_request at)
     body_hosted ShareFetch correlation at =
         message_hosted (fetch_begins conf sessions)
         (λ m. record { stage = subst (AsksHosted count) (sym (keeps_to_talk.fetch conf sessions m)) (fetch_hosted conf sessions all m); leaves = fetch_leaves conf sessions all m })

@@ -8,6 +8,7 @@ use Rattle.call_fold.specs.Talks.{Talk, talk_of, stage_talk}
 use Rattle.call_fold.proofs.Talked.{means_entries}
 use Rattle.msgs_state.specs.StateReply.{partition_result}
 use Rattle.msgs_state.specs.ReadReply.{read_partition_result}
+use Rattle.log_calls.specs.Delete.{delete_acts, delete_stage}
 use Rattle.log_calls.specs.Produce.{produce_acts, produce_stage}
 use Rattle.share_calls.specs.Fetch.{fetch_acts, fetch_begins as begun_fetch}
 use Rattle.share_calls.specs.Acknowledge.{ack_acts, ack_begins as begun_ack}
@@ -18,7 +19,7 @@ use Rattle.state_calls.specs.Read.{read_means}
 use Rattle.state_calls.specs.Write.{write_means}
 use Rattle.state_calls.specs.Delete.{delete_means}
 use Rattle.conn_core.specs.declared.hand.Hand.{Hand}
-use Rattle.conn_core.specs.declared.hand.Hand.TheVariants.{Produce, Fetch, Acknowledge, Heartbeat, Initialize, Read, Write, Delete}
+use Rattle.conn_core.specs.declared.hand.Hand.TheVariants.{Produce, DeleteRecords, Fetch, Acknowledge, Heartbeat, Initialize, Read, Write, Delete}
 use Rattle.conn_core.specs.Hands.{hand_stage, hand_stage_after}
 use Rattle.conn_core.specs.Talking.{hand_talk_after, hand_talk, KeepsToItsTalk}
 
@@ -31,6 +32,8 @@ named f hold (Says body) same = refl
 goes_alone : (hand : Hand) (answer : PartAnswer) → stage_talk hand_talk (hand_stage_after hand answer) ≡ hand_talk_after hand answer
 goes_alone (Produce a) answer =
     named (talk_of produce_acts) (λ b. Produce b) (stage_after produce_acts a answer) (λ b. refl) ∙ (means_entries produce_acts).goes_on a answer
+goes_alone (DeleteRecords a) answer =
+    named (talk_of delete_acts) (λ b. DeleteRecords b) (stage_after delete_acts a answer) (λ b. refl) ∙ (means_entries delete_acts).goes_on a answer
 goes_alone (Fetch a) answer =
     named (talk_of fetch_acts) (λ b. Fetch b) (stage_after fetch_acts a answer) (λ b. refl) ∙ (means_entries fetch_acts).goes_on a answer
 goes_alone (Acknowledge a) answer =
@@ -53,6 +56,7 @@ goes_alone (Delete a) answer =
 pub keeps_to_talk : KeepsToItsTalk
 keeps_to_talk = record {
   produce = λ conf sessions m. named (talk_of produce_acts) (λ b. Produce b) (produce_stage conf.topics m) (λ b. refl);
+  delete_records = λ conf sessions m. named (talk_of delete_acts) (λ b. DeleteRecords b) (delete_stage conf.topics m) (λ b. refl);
   fetch = λ conf sessions m. named (talk_of fetch_acts) (λ b. Fetch b) (begun_fetch conf sessions m).stage (λ b. refl);
   acknowledge = λ conf sessions m. named (talk_of ack_acts) (λ b. Acknowledge b) (begun_ack conf.topics sessions m).stage (λ b. refl);
   heartbeat = λ conf sessions m. named (talk_of heartbeat_acts) (λ b. Heartbeat b) (heartbeat_stage m) (λ b. refl);

@@ -7,6 +7,7 @@ use Rattle.topic_conf.specs.Configs.{ConfigParts}
 use Rattle.msgs_base.specs.declared.metadata_request.MetadataRequest.{MetadataRequest}
 use Rattle.msgs_base.specs.declared.find_coordinator_request.FindCoordinatorRequest.{FindCoordinatorRequest}
 use Rattle.msgs_base.specs.declared.api_versions_request.ApiVersionsRequest.{ApiVersionsRequest}
+use Rattle.msgs_base.specs.declared.delete_records_request.DeleteRecordsRequest.{DeleteRecordsRequest}
 use Rattle.msgs_base.specs.declared.produce_request.ProduceRequest.{ProduceRequest}
 use Rattle.msgs_base.specs.ApiVersionsReply.{api_versions_reply}
 use Rattle.msgs_base.specs.MetadataReply.{metadata_reply}
@@ -28,13 +29,14 @@ use Rattle.state_calls.specs.Initialize.{initialize_means}
 use Rattle.state_calls.specs.Read.{read_means}
 use Rattle.state_calls.specs.Write.{write_means}
 use Rattle.state_calls.specs.Delete.{delete_means}
+use Rattle.log_calls.specs.Delete.{delete_stage}
 use Rattle.log_calls.specs.Produce.{produce_stage}
 use Rattle.share_session.specs.SessionParts.{SessionParts}
 use Rattle.share_calls.specs.Fetch.{fetch_begins as begun_fetch}
 use Rattle.share_calls.specs.Acknowledge.{ack_begins as begun_ack}
 use Rattle.share_calls.specs.Heartbeats.{heartbeat_stage}
 use Rattle.conn_core.specs.declared.hand.Hand.{Hand}
-use Rattle.conn_core.specs.declared.hand.Hand.TheVariants.{Produce, Fetch, Acknowledge, Heartbeat, Initialize, Read, Write, Delete}
+use Rattle.conn_core.specs.declared.hand.Hand.TheVariants.{Produce, DeleteRecords, Fetch, Acknowledge, Heartbeat, Initialize, Read, Write, Delete}
 use Rattle.conn_core.specs.declared.begun.Begun.{Begun}
 use Rattle.conn_core.specs.Versions.{versions_answer}
 use Rattle.conn_core.specs.Metadata.{metadata_answer}
@@ -60,6 +62,9 @@ versions_begins conf sessions m = begun_at (Says (Some (api_versions_reply.bytes
 
 abbrev pub produce_begins : Begins ProduceRequest
 produce_begins conf sessions m = begun_at (hand_stage (λ a. Produce a) (produce_stage conf.topics m))
+
+abbrev pub delete_records_begins : Begins DeleteRecordsRequest
+delete_records_begins conf sessions m = begun_at (hand_stage (λ a. DeleteRecords a) (delete_stage conf.topics m))
 
 -- a share request is judged by the sessions as they are, and changes one of them
 abbrev pub fetch_begins : Begins ShareFetchRequest

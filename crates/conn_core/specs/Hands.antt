@@ -13,16 +13,18 @@ use Rattle.state_calls.specs.Initialize.{initialize_means}
 use Rattle.state_calls.specs.Read.{read_means}
 use Rattle.state_calls.specs.Write.{write_means}
 use Rattle.state_calls.specs.Delete.{delete_means}
+use Rattle.log_calls.specs.Delete.{delete_acts}
 use Rattle.log_calls.specs.Produce.{produce_acts}
 use Rattle.share_calls.specs.Fetch.{fetch_acts}
 use Rattle.share_calls.specs.Acknowledge.{ack_acts}
 use Rattle.share_calls.specs.Heartbeats.{heartbeat_acts}
 use Rattle.conn_core.specs.declared.hand.Hand.{Hand}
-use Rattle.conn_core.specs.declared.hand.Hand.TheVariants.{Produce, Fetch, Acknowledge, Heartbeat, Initialize, Read, Write, Delete}
+use Rattle.conn_core.specs.declared.hand.Hand.TheVariants.{Produce, DeleteRecords, Fetch, Acknowledge, Heartbeat, Initialize, Read, Write, Delete}
 
 -- the part that is asked
 abbrev pub hand_part : Hand → Part
 hand_part (Produce a) = question_part produce_acts a
+hand_part (DeleteRecords a) = question_part delete_acts a
 hand_part (Fetch a) = question_part fetch_acts a
 hand_part (Acknowledge a) = question_part ack_acts a
 hand_part (Heartbeat a) = question_part heartbeat_acts a
@@ -38,6 +40,7 @@ hand_stage hold (Says body) = Says body
 -- it has this answer
 abbrev pub hand_stage_after : Hand → PartAnswer → Stage Hand
 hand_stage_after (Produce a) answer = hand_stage (λ b. Produce b) (stage_after produce_acts a answer)
+hand_stage_after (DeleteRecords a) answer = hand_stage (λ b. DeleteRecords b) (stage_after delete_acts a answer)
 hand_stage_after (Fetch a) answer = hand_stage (λ b. Fetch b) (stage_after fetch_acts a answer)
 hand_stage_after (Acknowledge a) answer = hand_stage (λ b. Acknowledge b) (stage_after ack_acts a answer)
 hand_stage_after (Heartbeat a) answer = hand_stage (λ b. Heartbeat b) (stage_after heartbeat_acts a answer)

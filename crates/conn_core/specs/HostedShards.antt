@@ -1,10 +1,10 @@
 -- Which shards a connection asks (this project's own): those of hosted partitions alone, where all its calls are of one configuration.
--- For example where three partitions are hosted, no batch, no visit and no look is asked of a shard above 2.
+-- For example where three partitions are hosted, no batch, no delete, no visit and no look is asked of a shard above 2.
 use Rattle.std.specs.Prelude.{◌<◌, ℕ, All}
 use Rattle.topic_conf.specs.Configs.{ConfigParts}
 use Rattle.topic_conf.specs.Topics.{partitions}
 use Rattle.call_fold.specs.declared.part.Part.{Part}
-use Rattle.call_fold.specs.declared.part.Part.TheVariants.{Foreign, Produce, Visit, Look, Heartbeat}
+use Rattle.call_fold.specs.declared.part.Part.TheVariants.{Foreign, Produce, Delete, Visit, Look, Heartbeat}
 use Rattle.call_fold.specs.declared.part.PartAnswer.{PartAnswer}
 use Rattle.call_fold.specs.Talks.{Talk, says, asks}
 use Rattle.share_session.specs.declared.step.PlanStep.{PlanStep}
@@ -22,6 +22,7 @@ use Rattle.conn_core.specs.Streams.{Act, conn_after}
 abbrev pub IsHostedPart : ℕ → Part → Type 0
 IsHostedPart count (Foreign op) = Unit {0}
 IsHostedPart count (Produce shard batch) = shard < count
+IsHostedPart count (Delete shard to) = shard < count
 IsHostedPart count (Visit shard visit) = shard < count
 IsHostedPart count (Look shard group) = shard < count
 IsHostedPart count (Heartbeat request) = Unit {0}

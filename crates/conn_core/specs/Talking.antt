@@ -3,6 +3,7 @@
 -- initialized and read`), and so does a Produce (`a batch is stored`).
 use Rattle.std.specs.Prelude.{◌≡◌, List}
 use Rattle.topic_conf.specs.Configs.{ConfigParts}
+use Rattle.msgs_base.specs.declared.delete_records_request.DeleteRecordsRequest.{DeleteRecordsRequest}
 use Rattle.msgs_base.specs.declared.produce_request.ProduceRequest.{ProduceRequest}
 use Rattle.msgs_share.specs.declared.share_fetch_request.ShareFetchRequest.{ShareFetchRequest}
 use Rattle.msgs_share.specs.declared.share_ack_request.ShareAckRequest.{ShareAckRequest}
@@ -26,6 +27,8 @@ use Rattle.state_calls.specs.Initialize.{initialize_means}
 use Rattle.state_calls.specs.Read.{read_means}
 use Rattle.state_calls.specs.Write.{write_means}
 use Rattle.state_calls.specs.Delete.{delete_means}
+use Rattle.log_calls.specs.Delete.{delete_acts}
+use Rattle.log_calls.specs.DeleteTalks.{delete_talk}
 use Rattle.log_calls.specs.Produce.{produce_acts}
 use Rattle.log_calls.specs.ProduceTalks.{produce_talk}
 use Rattle.share_session.specs.SessionParts.{SessionParts}
@@ -35,12 +38,13 @@ use Rattle.share_calls.specs.Acknowledge.{ack_acts}
 use Rattle.share_calls.specs.AckTalks.{ack_talk}
 use Rattle.share_calls.specs.Heartbeats.{heartbeat_acts, heartbeat_talk}
 use Rattle.conn_core.specs.declared.hand.Hand.{Hand}
-use Rattle.conn_core.specs.declared.hand.Hand.TheVariants.{Produce, Fetch, Acknowledge, Heartbeat, Initialize, Read, Write, Delete}
+use Rattle.conn_core.specs.declared.hand.Hand.TheVariants.{Produce, DeleteRecords, Fetch, Acknowledge, Heartbeat, Initialize, Read, Write, Delete}
 use Rattle.conn_core.specs.Hands.{hand_part, hand_stage_after}
-use Rattle.conn_core.specs.Beginning.{produce_begins, fetch_begins, acknowledge_begins, heartbeat_begins, initialize_begins, read_begins, write_begins, delete_begins}
+use Rattle.conn_core.specs.Beginning.{produce_begins, delete_records_begins, fetch_begins, acknowledge_begins, heartbeat_begins, initialize_begins, read_begins, write_begins, delete_begins}
 
 abbrev pub hand_talk_after : Hand → PartAnswer → Talk
 hand_talk_after (Produce a) answer = talk_after produce_acts a answer
+hand_talk_after (DeleteRecords a) answer = talk_after delete_acts a answer
 hand_talk_after (Fetch a) answer = talk_after fetch_acts a answer
 hand_talk_after (Acknowledge a) answer = talk_after ack_acts a answer
 hand_talk_after (Heartbeat a) answer = talk_after heartbeat_acts a answer
@@ -56,6 +60,8 @@ hand_talk hand = asks (hand_part hand) (hand_talk_after hand)
 pub record KeepsToItsTalk : Type 0 where
   pub produce : (conf : ConfigParts) (sessions : List SessionParts) (m : ProduceRequest) →
       stage_talk hand_talk (produce_begins conf sessions m).stage ≡ produce_talk conf.topics m
+  pub delete_records : (conf : ConfigParts) (sessions : List SessionParts) (m : DeleteRecordsRequest) →
+      stage_talk hand_talk (delete_records_begins conf sessions m).stage ≡ delete_talk conf.topics m
   pub fetch : (conf : ConfigParts) (sessions : List SessionParts) (m : ShareFetchRequest) →
       stage_talk hand_talk (fetch_begins conf sessions m).stage ≡ fetch_talk conf sessions m
   pub acknowledge : (conf : ConfigParts) (sessions : List SessionParts) (m : ShareAckRequest) →

@@ -8,8 +8,8 @@ ghost use Rattle.conn_core.specs.Hands.{hand_part, hand_stage, hand_stage_after}
 
 use crate::kept::Kept;
 use call_fold::{Asking, Call, Part, PartAnswer, Stage, part_of, take};
-use log_calls::{Offer, ProduceHand};
-use msgs_base::ProducePartitionReply;
+use log_calls::{DeleteHand, Offer, ProduceHand, Target};
+use msgs_base::{DeleteRecordsPartitionResult, ProducePartitionReply};
 use msgs_group::{HeartbeatReply, HeartbeatRequest};
 use msgs_share::AcknowledgedPartition;
 use msgs_state::{PartitionResult, ReadPartitionResult};
@@ -24,6 +24,7 @@ use std::alloc::Global;
 #[derive(Drop)]
 pub enum Hand {
     Produce(Kept<Asking<ProduceHand, Offer, ProducePartitionReply>>),
+    DeleteRecords(Kept<Asking<DeleteHand, Target, DeleteRecordsPartitionResult>>),
     Fetch(Kept<Asking<FetchHand, Visiting, Option<FetchRow>>>),
     Acknowledge(Kept<Asking<AckHand, Visiting, Option<AcknowledgedPartition>>>),
     Heartbeat(Kept<Asking<HeartbeatHand, HeartbeatRequest, HeartbeatReply>>),
@@ -53,6 +54,17 @@ impl Named for Asking<ProduceHand, Offer, ProducePartitionReply> {
     fn named(self, alloc: Global) -> Result<Hand, NoMemory> {
         let asking = Kept::new(alloc, self)?;
         Ok(Hand::Produce(asking))
+    }
+}
+
+impl Named for Asking<DeleteHand, Target, DeleteRecordsPartitionResult> {
+    ghost use Rattle.conn_core.specs.declared.hand.Hand.TheVariants.{DeleteRecords};
+
+    ghost name = { λ asking. DeleteRecords asking };
+
+    fn named(self, alloc: Global) -> Result<Hand, NoMemory> {
+        let asking = Kept::new(alloc, self)?;
+        Ok(Hand::DeleteRecords(asking))
     }
 }
 
@@ -177,6 +189,7 @@ impl Hand {
     {
         match self {
             Hand::Produce(asking) => part_of(alloc, asking.get()),
+            Hand::DeleteRecords(asking) => part_of(alloc, asking.get()),
             Hand::Fetch(asking) => part_of(alloc, asking.get()),
             Hand::Acknowledge(asking) => part_of(alloc, asking.get()),
             Hand::Heartbeat(asking) => part_of(alloc, asking.get()),
@@ -194,6 +207,7 @@ impl Hand {
     {
         match self {
             Hand::Produce(asking) => next_under_name(alloc, take_kept(alloc, asking, answer)),
+            Hand::DeleteRecords(asking) => next_under_name(alloc, take_kept(alloc, asking, answer)),
             Hand::Fetch(asking) => next_under_name(alloc, take_kept(alloc, asking, answer)),
             Hand::Acknowledge(asking) => next_under_name(alloc, take_kept(alloc, asking, answer)),
             Hand::Heartbeat(asking) => next_under_name(alloc, take_kept(alloc, asking, answer)),

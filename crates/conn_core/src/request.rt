@@ -4,7 +4,7 @@
 //! time anew.
 ghost use Rattle.std.specs.Prelude.{◌≡◌, List, IfOk};
 ghost use Rattle.share_calls.specs.Changes.{Fits};
-ghost use Rattle.conn_core.specs.Beginning.{Begins, metadata_begins, coordinator_begins, versions_begins, produce_begins, fetch_begins, acknowledge_begins};
+ghost use Rattle.conn_core.specs.Beginning.{Begins, metadata_begins, coordinator_begins, versions_begins, produce_begins, delete_records_begins, fetch_begins, acknowledge_begins};
 ghost use Rattle.conn_core.specs.Beginning.{heartbeat_begins, initialize_begins, read_begins, write_begins, delete_begins};
 
 use crate::begun::Begun;
@@ -14,10 +14,10 @@ use crate::kept::Kept;
 use crate::metadata::metadata_reply;
 use crate::versions::versions_reply;
 use call_fold::Stage;
-use log_calls::produce_call;
+use log_calls::{delete_call, produce_call};
 use msgs_base::{
-    ApiVersionsRequest, FindCoordinatorRequest, MetadataRequest, ProduceRequest,
-    write_api_versions_reply, write_metadata_reply,
+    ApiVersionsRequest, DeleteRecordsRequest, FindCoordinatorRequest, MetadataRequest,
+    ProduceRequest, write_api_versions_reply, write_metadata_reply,
 };
 use msgs_group::HeartbeatRequest;
 use msgs_share::{ShareAckRequest, ShareFetchRequest};
@@ -132,6 +132,15 @@ impl Request for ProduceRequest {
 
     fn begin(self, alloc: Global, conf: &Config, _: &Sessions) -> Result<Begun, NoMemory> {
         let stage = produce_call(alloc, conf, self)?;
+        begun!(alloc, stage)
+    }
+}
+
+impl Request for DeleteRecordsRequest {
+    ghost begins = { delete_records_begins };
+
+    fn begin(self, alloc: Global, conf: &Config, _: &Sessions) -> Result<Begun, NoMemory> {
+        let stage = delete_call(alloc, conf, self)?;
         begun!(alloc, stage)
     }
 }

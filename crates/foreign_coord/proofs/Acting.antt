@@ -1,15 +1,13 @@
 -- From what the store does to what the shard does.
-use Rattle.std.proofs.Common.{◌≡◌, ◌≢◌, ◌⊎◌, ⊎_elim, ◌<◌, ◌≤◌, ◌+◌, ◌^◌, inl, inr, refl, sym, ◌∙◌, ap, subst, arith, ℕ, List, length}
+use Rattle.std.proofs.Common.{◌≡◌, ◌≢◌, ◌⊎◌, ⊎_elim, ◌<◌, ◌+◌, ◌^◌, inl, inr, refl, sym, ◌∙◌, ap, subst, arith, ℕ, List, length}
 use Rattle.std.proofs.Common.{Bool, true, false, Option, Some, None, Result, Ok, Err, IfOk, IfErr, OnErr, IsErr, if◌then◌else◌}
 use Rattle.std.specs.Option.{option_map}
 use Rattle.std.proofs.lemmas.Result.{IfOk-weaker}
 use Rattle.edge_io.specs.Armed.{StarvesUnarmed}
-use Rattle.edge_io.specs.Causes.{Rose}
 use Rattle.edge_io.specs.Moments.{LeavesPairs}
 use Rattle.flex_fields.specs.declared.fault.NoMemory.{NoMemory as want}
 use Rattle.share_model.specs.ForeignRules.{code_alone}
 use Rattle.share_model.specs.ForeignRules.{ShareStates, Does}
-use Rattle.share_model.specs.Pending.{WithPending}
 use Rattle.share_model.specs.ErrorCodes.{NONE, KAFKA_STORAGE_ERROR}
 use Rattle.share_model.specs.declared.fault.StoreFault.{StoreFault}
 use Rattle.share_model.specs.declared.fault.StoreFault.TheVariants.{Device, Full}
@@ -23,13 +21,15 @@ use Rattle.share_coord.specs.Holding.{Holds, IsWithin, WritesOnce}
 use Rattle.share_coord.specs.declared.fault.CoordFault.{CoordFault}
 use Rattle.share_coord.specs.declared.fault.CoordFault.TheVariants.{Invalid, Unknown, FencedLeader, FencedState, TooMany, Store, NoMemory}
 use Rattle.share_coord.specs.Recorded.{StoresOne}
-use Rattle.share_coord.specs.States.{states_of, AreStates}
+use Rattle.share_coord.specs.States.{states_of}
+use Rattle.share_coord.specs.Unwritten.{AreUnraised, NeverRaised}
 use Rattle.state_records.specs.Spelling.{record_bytes}
 use Rattle.foreign_coord.specs.Codes.{Tells, TellsFault, code_in}
 use Rattle.foreign_coord.specs.Once.{ActsOnce, Carried, FailsToPut, HasFailedNone, HasRisen, PutsRecord}
 use Rattle.foreign_coord.specs.Shards.{ForeignShardState, StepsForeign, Grants, HasNoRoom, Carries, IsFound, IsRecordOf, writes}
 use Rattle.share_coord.proofs.Keys.{clash}
 use Rattle.share_coord.proofs.Once.{held_still}
+use Rattle.share_coord.proofs.Unraised.{refused_unraised, stand_exact, states_exact}
 use Rattle.foreign_coord.proofs.Rules.{IsNumeric, IsOther, other_code, none_code}
 use Rattle.edge_io.specs.Views.{DiskView}
 
@@ -38,20 +38,20 @@ abbrev pub shard_of : {D : Type 0} → StoreParts D → Option Entries → Forei
 shard_of store pending = record { states = states_of store.entries; pending = option_map states_of pending }
 
 module _ {D : Type 0} (seen : D → DiskView) (store : StoreParts D) where
-  pub carries_by : (pending : Option Entries) → Holds seen store pending → Carries seen store (shard_of store pending)
-  carries_by pending holds = record { pending = pending; holds = holds; states = refl; pending_is = refl }
+  pub carries_by : (pending : Option Entries) → Holds seen store pending → NeverRaised store.entries pending → Carries seen store (shard_of store pending)
+  carries_by pending holds never = record { pending = pending; holds = holds; states = refl; pending_is = refl; unraised = never }
 
   -- what holds of that holds of each shard that the store carries
-  pub carried : (P : ForeignShardState → Type 0) → ((pending : Option Entries) → Holds seen store pending → P (shard_of store pending))
+  pub carried : (P : ForeignShardState → Type 0) → ((pending : Option Entries) → Holds seen store pending → NeverRaised store.entries pending → P (shard_of store pending))
       → (shard : ForeignShardState) → Carries seen store shard → P shard
   carried P f shard c =
       let is : shard_of store c.pending ≡ shard = λ i. record { states = sym c.states i; pending = sym c.pending_is i } in
-      subst P is (f c.pending c.holds)
+      subst P is (f c.pending c.holds c.unraised)
 
 -- a store with the same states carries them still
 pub carries_on : {D : Type 0} (seen : D → DiskView) (old new : StoreParts D) (pending : Option Entries) → states_of new.entries ≡ states_of old.entries
-    → Holds seen new pending → Carries seen new (shard_of old pending)
-carries_on seen old new pending same holds = record { pending = pending; holds = holds; states = sym same; pending_is = refl }
+    → Holds seen new pending → NeverRaised new.entries pending → Carries seen new (shard_of old pending)
+carries_on seen old new pending same holds never = record { pending = pending; holds = holds; states = sym same; pending_is = refl; unraised = never }
 
 -- a store that is as it was carries what it carried
 pub carries_still : {D : Type 0} (seen : D → DiskView) (old new : StoreParts D) → new ≡ old → (shard : ForeignShardState) → Carries seen old shard
@@ -61,9 +61,11 @@ carries_still {D} seen old new same shard c = subst (λ (s : StoreParts D). Carr
 -- ---- moments
 
 found_in : (op : ForeignOp) (Written : Entries → Type 0) (entries : Entries) (pending : Option Entries) (a b : List ℕ)
-    → ((es : Entries) → Written es → Grants (states_of entries) op (states_of es)) → IsWithin Written entries pending a b
+    → ((es : Entries) → Written es → Grants (states_of entries) op (states_of es)) → ((es : Entries) → Written es → AreUnraised entries → AreUnraised es)
+    → NeverRaised entries pending → IsWithin Written entries pending a b
     → IsFound (record { states = states_of entries; pending = option_map states_of pending }) op a b
-found_in op Written entries pending a b grants h = ⊎_elim (λ w. inl w) (λ w. inr (states_of w.0, grants w.0 w.1, w.2)) h
+found_in op Written entries pending a b grants plain never h = ⊎_elim (λ w. inl (stand_exact a b entries pending never w))
+    (λ w. inr (states_of w.0, grants w.0 w.1, states_exact a b w.0 (plain w.0 w.1 never.0) w.2)) h
 
 -- ---- answers
 
@@ -136,7 +138,8 @@ module _ {D : Type 0} (seen : D → DiskView)
       × StepsForeign (HasRisen seen old new) old.journal.end s op answer fault t
 
 module _ {D T : Type 0} (seen : D → DiskView) (op : ForeignOp) (old new : StoreParts D) (Written : Entries → Type 0)
-    (grants : (es : Entries) → Written es → Grants (states_of old.entries) op (states_of es)) where
+    (grants : (es : Entries) → Written es → Grants (states_of old.entries) op (states_of es))
+    (plain : (es : Entries) → Written es → AreUnraised old.entries → AreUnraised es) where
   abbrev Once : Result T CoordFault → Type 0
   Once done = WritesOnce {T = T} seen (HasFailed seen) Written old new done
 
@@ -144,21 +147,24 @@ module _ {D T : Type 0} (seen : D → DiskView) (op : ForeignOp) (old new : Stor
   Puts done = StoresOne {T = T} seen (IsRecordOf old.entries op) old.journal new.journal done
 
   done_by : (x : T) → Once (Ok x) → Carried seen op old new (code_alone NONE)
-  done_by x once = carried seen old (Leads seen op old new (code_alone NONE)) (λ pending held. (
+  done_by x once = carried seen old (Leads seen op old new (code_alone NONE)) (λ pending held never. (
     shard_of new None,
     None,
-    carries_by seen new None (once.kept pending held),
+    carries_by seen new None (once.kept pending held) (plain new.entries once.written never.0, tt),
     record {
       does = (grants new.entries once.written).0;
       pending = sym (ap (λ (b : Bool). if b then None else option_map states_of pending) (grants new.entries once.written).1);
     },
   ))
 
+  still_unraised : (e : CoordFault) → Once (Err e) → (pending : Option Entries) → NeverRaised old.entries pending → NeverRaised new.entries pending
+  still_unraised e once pending never = (refused_unraised seen (HasFailed seen) Written old new e once never.0, never.1)
+
   refused_by : (e : CoordFault) → NotDevice e → IsRefusedBy (states_of old.entries) op e → Once (Err e) → Carried seen op old new (code_alone (code_in e))
-  refused_by e other by once = carried seen old (Leads seen op old new (code_alone (code_in e))) (λ pending held. (
+  refused_by e other by once = carried seen old (Leads seen op old new (code_alone (code_in e))) (λ pending held never. (
     shard_of old pending,
     None,
-    carries_on seen old new pending once.same (held_still seen old new (once.unchanged (apart_device e other)) pending held),
+    carries_on seen old new pending once.same (held_still seen old new (once.unchanged (apart_device e other)) pending held) (still_unraised e once pending never),
     record { does = by.does; pending = sym (ap (λ (b : Bool). if b then None else option_map states_of pending) by.unwritten) },
   ))
 
@@ -184,26 +190,27 @@ module _ {D T : Type 0} (seen : D → DiskView) (op : ForeignOp) (old new : Stor
       let failed = once.device refl in
       let lost = failed.1 in
       let rose : HasRisen seen old new = ⊎_elim (λ h. inl h.0) (λ h. inr h.0) failed.0 in
-      carried seen old (Leads seen op old new (code_alone KAFKA_STORAGE_ERROR)) (λ pending held.
+      carried seen old (Leads seen op old new (code_alone KAFKA_STORAGE_ERROR)) (λ pending held never.
       let granted : (l : ShareStates) × Grants (states_of old.entries) op l = (states_of lost.0, grants lost.0 lost.1) in
       ⊎_elim (λ h. (
         shard_of old pending,
         Some Device,
-        carries_on seen old new pending once.same h,
+        carries_on seen old new pending once.same h (still_unraised (Store Device) once pending never),
         (refl, rose, record { granted = granted; same = refl; pending = inl refl }),
       ))
       (λ l. (
         shard_of old (Some l.0),
         Some Device,
-        carries_on seen old new (Some l.0) once.same l.2,
+        carries_on seen old new (Some l.0) once.same l.2 ((still_unraised (Store Device) once pending never).0, plain l.0 l.1 never.0),
         (refl, rose, record { granted = granted; same = refl; pending = inr (states_of l.0, grants l.0 l.1, refl) }),
       )) (once.failed pending held))
   stored_by (Full end) once puts =
       let f = full_by end once puts in
-      carried seen old (Leads seen op old new (code_alone KAFKA_STORAGE_ERROR)) (λ pending held. (
+      carried seen old (Leads seen op old new (code_alone KAFKA_STORAGE_ERROR)) (λ pending held never. (
         shard_of old pending,
         Some (Full end),
-        carries_on seen old new pending once.same (held_still seen old new (once.unchanged (apart_device (Store (Full end)) tt)) pending held),
+        carries_on seen old new pending once.same (held_still seen old new (once.unchanged (apart_device (Store (Full end)) tt)) pending held)
+            (still_unraised (Store (Full end)) once pending never),
         (refl, f.0, refl, f.1),
       ))
 
@@ -221,12 +228,12 @@ module _ {D T : Type 0} (seen : D → DiskView) (op : ForeignOp) (old new : Stor
       LeavesPairs seen old.journal.first.disk new.journal.first.disk old.journal.second.disk new.journal.second.disk (IsFound s op)
   moments_by done once = carried seen old
       (λ s. LeavesPairs seen old.journal.first.disk new.journal.first.disk old.journal.second.disk new.journal.second.disk (IsFound s op))
-      (λ pending held.
+      (λ pending held never.
       let pairs = once.any_moment pending held in
       record {
         later_a = pairs.later_a;
         later_b = pairs.later_b;
-        each = λ a b left right. found_in op Written old.entries pending a b grants (pairs.each a b left right);
+        each = λ a b left right. found_in op Written old.entries pending a b grants plain never (pairs.each a b left right);
       })
 
   -- a refusal that isn't of the store
@@ -298,10 +305,10 @@ idle seen only_now op store result does = record {
   ok = IfOk-weaker result _ _ (λ answer h. carried seen store
       (λ s. (t : ForeignShardState) × (fault : Option StoreFault) × Carries seen store t
       × StepsForeign (HasRisen seen store store) store.journal.end s op answer fault t)
-      (λ pending held. (
+      (λ pending held never. (
         shard_of store pending,
         None,
-        carries_by seen store pending held,
+        carries_by seen store pending held never,
         record { does = h.0; pending = sym (ap (λ (b : Bool). if b then None else option_map states_of pending) h.1) },
       ))) does;
   memory = on_err result (store ≡ store) refl;
@@ -312,10 +319,11 @@ idle seen only_now op store result does = record {
   unstored = IfOk-weaker result _ _ (λ answer h at. absurd (h.2 at)) does;
   any_moment = carried seen store
       (λ s. LeavesPairs seen store.journal.first.disk store.journal.first.disk store.journal.second.disk store.journal.second.disk (IsFound s op))
-      (λ pending held. record {
+      (λ pending held never. record {
         later_a = omega arith;
         later_b = omega arith;
-        each = λ a b left right. inl (held.images a b (only_now store.journal.first.disk a left) (only_now store.journal.second.disk b right));
+        each = λ a b left right. inl (stand_exact a b store.entries pending never
+            (held.images a b (only_now store.journal.first.disk a left) (only_now store.journal.second.disk b right)));
       });
 }
 

@@ -27,6 +27,7 @@ use Rattle.share_coord.specs.Parts.{KeptState}
 use Rattle.share_coord.proofs.Keys.{some_none}
 use Rattle.share_coord.proofs.Seen.{either_there}
 use Rattle.share_coord.proofs.Storing.{as_this}
+use Rattle.share_coord.proofs.Unraised.{forgotten_unraised, init_unraised, write_unraised}
 use Rattle.share_coord.specs.States.{states_of}
 use Rattle.foreign_coord.specs.Codes.{Tells, TellsFault, code_in}
 use Rattle.foreign_coord.specs.Once.{ActsOnce}
@@ -62,7 +63,7 @@ module _ {D : Type 0} (seen : D → DiskView)
   init_by done state start tells causes once puts =
       let Caused : CoordFault → Type 0 = Causes (init_refusal (kept_at shown.entries key) state start) (λ _. ⊥) in
       acts seen (Init key state start) shown new (IsInitialised shown.entries key state start)
-      (λ es is. (init_granted shown.entries key state start es is, refl)) done result tells once puts
+      (λ es is. (init_granted shown.entries key state start es is, refl)) (λ es is. init_unraised shown.entries key state start es is) done result tells once puts
       (λ e is numeric. record {
         does = init_refused shown.entries key state start e
             (cause_some (init_refusal (kept_at shown.entries key) state start) (λ _. ⊥) e (err_at done e Caused is causes) numeric) numeric;
@@ -94,7 +95,8 @@ module _ {D : Type 0} (seen : D → DiskView)
       → WritesBatches (states_of shown.entries) key state leader start (runs_of batches) answer states =
       λ answer states h. subst (λ (o : Option (List Run)). WritesBatches (states_of shown.entries) key state leader start o answer states) (sym are) h in
       acts seen (Write key state leader start batches) shown new (IsWritten shown.entries key state leader start runs)
-      (λ es is. (batched _ _ (write_granted shown.entries key state leader start runs es is), refl)) done result tells once
+      (λ es is. (batched _ _ (write_granted shown.entries key state leader start runs es is), refl))
+      (λ es is. write_unraised shown.entries key state leader start runs es is) done result tells once
       (as_this seen (IsWriteRecord shown.entries key state leader start runs) (IsRecordOf shown.entries (Write key state leader start batches))
       shown.journal new.journal (λ one is. (runs, are, is)) done puts)
       (λ e is numeric. record {
@@ -133,7 +135,7 @@ module _ {D : Type 0} (seen : D → DiskView)
       (λ es is. (
         (refl, ap states_of is.1.1 ∙ without_based is.1.0 shown.entries key),
         there_by (kept_at shown.entries key) (share_state_at (states_of shown.entries) key) (state_seen shown.entries key) is.0.0 is.0.1,
-      )) done result tells once puts
+      )) (λ es is. forgotten_unraised shown.entries key es is) done result tells once puts
       (λ e is numeric. absurd (some_none e (sym (cause_some None (λ _. ⊥) e (err_at done e Caused is causes) numeric))))
       (λ e n is at. absurd (cause_many None (λ _. ⊥) e n at (err_at done e Caused is causes)).1)
 

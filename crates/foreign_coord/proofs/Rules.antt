@@ -11,7 +11,7 @@ use Rattle.share_model.specs.declared.foreign.ForeignAnswer.{ForeignAnswer}
 use Rattle.share_model.specs.declared.run.Run.{Run}
 use Rattle.share_model.specs.ShareStates.{ShareState, start_after}
 use Rattle.share_coord.specs.Stored.{Entries, kept_at}
-use Rattle.share_coord.specs.Calls.{IsInitialised, IsWritten, IsTooMany, init_refusal, write_refusal}
+use Rattle.share_coord.specs.Calls.{IsInitialised, IsWritten, IsTooMany, counted, init_refusal, write_refusal}
 use Rattle.share_coord.specs.declared.fault.CoordFault.{CoordFault}
 use Rattle.share_coord.specs.declared.fault.CoordFault.TheVariants.{Invalid, Unknown, FencedLeader, FencedState, TooMany, Store, NoMemory}
 use Rattle.share_coord.specs.States.{states_of}
@@ -113,7 +113,8 @@ module _ (old : Entries) (key : KeyParts) (state leader start : ℤ) (runs : Lis
             few = is.few;
             is = ap states_of is.is ∙ (with_based is.checkpointed old key _
                 ∙ ap (λ (v : ShareState). insert_entry key_cmp (states_of old) key
-                (record { state_epoch = state; leader_epoch = leader; start = start_after v.start start; runs = is.laid })) (kept_view is.checkpointed is.kept));
+                (record { state_epoch = state; leader_epoch = leader; start = start_after v.start start; runs = is.laid }))
+                (kept_view is.checkpointed (counted is.kept (start_after is.kept.view.start start))));
           },
         ),
       )

@@ -24,6 +24,7 @@ use Rattle.share_coord.specs.Parts.{StoreParts}
 use Rattle.share_coord.specs.Recorded.{IsInitRecord, IsWriteRecord}
 use Rattle.share_coord.specs.Stored.{Entries}
 use Rattle.share_coord.specs.States.{states_of, AreStates}
+use Rattle.share_coord.specs.Unwritten.{NeverRaised}
 use Rattle.edge_io.specs.Views.{DiskView}
 
 -- the shard of foreign state: the states, and what the pending write would leave
@@ -89,6 +90,8 @@ pub record Carries {D : Type 0} (seen : D → DiskView) (store : StoreParts D) (
   pub holds : Holds seen store pending
   pub states : shard.states ≡ states_of store.entries
   pub pending_is : shard.pending ≡ option_map states_of pending
+  -- no start of its keys is ever raised, so the disks stand for the states themselves
+  pub unraised : NeverRaised store.entries pending
 
 -- contents found at a moment of a call: those of what stood at entry, with or without its pending write, or of what the call leaves
 -- where it is granted

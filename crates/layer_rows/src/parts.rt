@@ -5,13 +5,14 @@
 // |---|---|
 // | `open` | a shard on empty disks: `ok` |
 // | `produce HEX ..` | adds a batch: its base, or why it is refused |
+// | `delete OFFSET` | deletes what lies below it, -1 standing for the log's end: where the log starts then, or `out of range END`, or `fails` |
 // | `fetch GROUP MEMBER` | acquires what there is: `FIRST..LAST xCOUNT, ..`, or `fails` |
 // | `reserve NUMBER` | makes the spare number so large |
 // | `arm DISK N MODE` | N calls on `log`, `state-a` or `state-b` pass, and the next fails: `once`, `torn` or `dead` |
 // | `acknowledge GROUP MEMBER FIRST..LAST:TYPE,TYPE ..` | in memory that is set aside: `done`, `malformed`, `not held OFFSET`, `fails`, `full END` |
 // | `table GROUP` | its start, and the runs of its stored rows |
 use crate::acks::{batches_of, type_count};
-use crate::disks::{mode_of, new_disk, word_number};
+use crate::disks::{mode_of, new_disk, number_text, word_number};
 use crate::logs::answer_text;
 use crate::plain::word;
 use crate::runs::{done_text, list_text};
@@ -20,8 +21,8 @@ use edge_mem::MemDisk;
 use flex_fields::Items;
 use row_text::bytes_of;
 use share_model::{
-    AckList, AckOutcome, Grant, Name, NoMemory, Reset, StoreFault, Then, ThenOutcome, Visit,
-    VisitAnswer,
+    AckList, AckOutcome, DeleteAnswer, Grant, Name, NoMemory, Reset, StoreFault, Then, ThenOutcome,
+    Visit, VisitAnswer,
 };
 use share_part::{PartConf, PartShard};
 use std::alloc::Global;
@@ -135,8 +136,28 @@ fn produce(
     let Some(batch) = bytes_of(alloc, text)? else {
         return Ok(None);
     };
-    let answer = shard.produce(0, &batch);
+    let answer = match shard.produce(0, &batch) {
+        Ok(placed) => Ok(placed.base),
+        Err(fault) => Err(fault),
+    };
     Ok(Some(answer_text(alloc, answer)?))
+}
+
+/// Deletes the records below an offset.
+fn delete(
+    alloc: Global,
+    shard: &mut PartShard<MemDisk, WindowRuns>,
+    text: &str,
+) -> io::Result<String> {
+    let Ok(to) = text.parse() else {
+        return word(alloc, "no such offset");
+    };
+    match shard.delete(0, to) {
+        DeleteAnswer::Done { start } => number_text(alloc, start),
+        DeleteAnswer::OutOfRange { end } => word_number(alloc, "out of range", end),
+        DeleteAnswer::Store(StoreFault::Device) => word(alloc, "fails"),
+        DeleteAnswer::Store(StoreFault::Full { end }) => word_number(alloc, "full", end),
+    }
 }
 
 fn reserve(shard: &mut PartShard<MemDisk, WindowRuns>, text: &str) -> Option<Result<(), NoMemory>> {
@@ -199,6 +220,7 @@ fn told_by(
 ) -> io::Result<Option<String>> {
     let told = match kind {
         "produce" => return produce(alloc, shard, text),
+        "delete" => delete(alloc, shard, text),
         "reserve" => done_text(alloc, reserve(shard, text)),
         "arm" => done_text(alloc, arm(shard, text)),
         "table" => table_text(alloc, shard, text),

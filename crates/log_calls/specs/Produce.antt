@@ -3,6 +3,7 @@
 -- For example null records for a hosted partition have code 87 at once, and other bytes are asked of the partition's log (row_tests,
 -- `five partitions, each of which fails for another reason`).
 use Rattle.std.specs.Prelude.{ℕ, ℤ, pos, negsuc, Bool, Option, Some, None, List, [], ◌∷◌, map, flat_map, length, take, drop, slice_get, if◌then◌else◌}
+use Rattle.share_model.specs.declared.delete.Placed.{Placed}
 use Rattle.share_model.specs.declared.fault.Code.{Code}
 use Rattle.share_model.specs.ErrorCodes.{NONE, UNKNOWN_TOPIC_OR_PARTITION, INVALID_RECORD, KAFKA_STORAGE_ERROR}
 use Rattle.topic_conf.specs.declared.topic.Topic.{Topic}
@@ -75,19 +76,19 @@ code_row index code = record {
   error_message = None;
 }
 
-abbrev pub base_row : ℤ → ℕ → ProducePartitionReply
-base_row index base = record {
+abbrev pub base_row : ℤ → Placed → ProducePartitionReply
+base_row index placed = record {
   index = index;
   error_code = NONE.0;
-  base_offset = pos base;
+  base_offset = pos placed.base;
   log_append_time_ms = negsuc 0;
-  log_start_offset = pos 0;
+  log_start_offset = pos placed.start;
   record_errors = [];
   error_message = None;
 }
 
 abbrev pub log_row : ℤ → Produced → ProducePartitionReply
-log_row index (Base base) = base_row index base
+log_row index (Base placed) = base_row index placed
 log_row index (Batch fault) = code_row index (batch_code fault)
 log_row index (Store fault) = code_row index KAFKA_STORAGE_ERROR
 

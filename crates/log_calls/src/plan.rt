@@ -29,7 +29,7 @@ pub struct Plan {
 }
 
 // The id of the hosted topic of this name.
-fn id_named(conf: &Config, name: &str) -> Option<Uuid>
+pub fn id_named(conf: &Config, name: &str) -> Option<Uuid>
     ensures { result ≡ id_named conf.now.topics name.now }
 {
     let Some(place) = conf.by_name(name) else {
@@ -42,7 +42,7 @@ fn id_named(conf: &Config, name: &str) -> Option<Uuid>
 }
 
 // The number of the partition's shard, where it is hosted.
-fn shard_in(conf: &Config, id: &Option<Uuid>, index: i32) -> Option<u32>
+pub fn shard_in(conf: &Config, id: &Option<Uuid>, index: i32) -> Option<u32>
     ensures { result ≡ shard_in conf.now.topics id.now index }
 {
     match id {

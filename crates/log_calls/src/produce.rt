@@ -45,6 +45,7 @@ impl Call for ProduceHand {
         match answer {
             PartAnswer::Produce(produced) => Ok(log_row(alloc, question.index, produced)),
             PartAnswer::Foreign(_)
+            | PartAnswer::Delete(_)
             | PartAnswer::Visit(_)
             | PartAnswer::Look(_)
             | PartAnswer::Heartbeat(_) => unreachable!(),

@@ -8,7 +8,7 @@ use crate::shape::NamedShape;
 use call_fold::{Produced, next_rows};
 use flex_fields::{Bytes, Items};
 use msgs_base::{ProducePartitionReply, ProduceReply, ProduceTopicReply, write_produce_reply};
-use share_model::{Code, NoMemory};
+use share_model::{Code, NoMemory, Placed};
 use std::alloc::Global;
 use std::collections::VecDeque;
 
@@ -28,16 +28,16 @@ pub fn code_row(alloc: Global, index: i32, code: Code) -> ProducePartitionReply
 }
 
 // What it tells of a batch that is stored from this offset on.
-fn base_row(alloc: Global, index: i32, base: u64) -> ProducePartitionReply
-    requires { base < 2 ^ 63 }
-    ensures { result ≡ base_row index base }
+fn base_row(alloc: Global, index: i32, placed: Placed) -> ProducePartitionReply
+    requires { (placed.base < 2 ^ 63) × (placed.start < 2 ^ 63) }
+    ensures { result ≡ base_row index placed }
 {
     ProducePartitionReply {
         index,
         error_code: Code::NONE.0,
-        base_offset: base as i64,
+        base_offset: placed.base as i64,
         log_append_time_ms: -1,
-        log_start_offset: 0,
+        log_start_offset: placed.start as i64,
         record_errors: Items::new(Vec::new(alloc)),
         error_message: None,
     }
@@ -49,7 +49,7 @@ pub fn log_row(alloc: Global, index: i32, produced: Produced) -> ProducePartitio
     ensures { result ≡ log_row index produced }
 {
     match produced {
-        Produced::Base(base) => base_row(alloc, index, base),
+        Produced::Base(placed) => base_row(alloc, index, placed),
         Produced::Batch(fault) => code_row(alloc, index, batch_code(fault)),
         Produced::Store(_) => code_row(alloc, index, Code::KAFKA_STORAGE_ERROR),
     }

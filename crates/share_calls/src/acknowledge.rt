@@ -69,6 +69,7 @@ impl Call for AckHand {
             },
             PartAnswer::Foreign(_)
             | PartAnswer::Produce(_)
+            | PartAnswer::Delete(_)
             | PartAnswer::Look(_)
             | PartAnswer::Heartbeat(_) => unreachable!(),
         }

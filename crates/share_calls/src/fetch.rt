@@ -131,6 +131,7 @@ impl Call for FetchHand {
             }
             PartAnswer::Foreign(_)
             | PartAnswer::Produce(_)
+            | PartAnswer::Delete(_)
             | PartAnswer::Look(_)
             | PartAnswer::Heartbeat(_) => unreachable!(),
         }

@@ -85,6 +85,7 @@ impl Call for HeartbeatHand {
             PartAnswer::Heartbeat(reply) => Ok(reply),
             PartAnswer::Foreign(_)
             | PartAnswer::Produce(_)
+            | PartAnswer::Delete(_)
             | PartAnswer::Visit(_)
             | PartAnswer::Look(_) => unreachable!(),
         }

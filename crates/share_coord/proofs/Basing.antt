@@ -48,8 +48,8 @@ taken_again false old key kept none added is = left_again old key kept none adde
 taken_again true old key kept none added is = sym (renewed_without added key) ∙ ap renewed (left_again old key kept none added is)
 
 first_kept : (kept : KeptState) (fresh : Option Fresh) → IsFirst kept fresh → renewed_kept kept ≡ fresh_kept kept fresh
-first_kept kept None h = λ i. record { view = kept.view; snapshot = sym h.0 i; updates = sym h.1 i }
-first_kept kept (Some f) h = λ i. record { view = kept.view; snapshot = sym h.2.0 i; updates = sym h.2.1 i }
+first_kept kept None h = λ i. record { view = kept.view; snapshot = sym h.0 i; updates = sym h.1 i; raised = sym h.2 i; tells = kept.tells }
+first_kept kept (Some f) h = λ i. record { view = kept.view; snapshot = sym h.3.0 i; updates = sym h.3.1 i; raised = sym h.2 i; tells = kept.tells }
 
 -- a key was added that wasn't there
 pub added_is : (c : Bool) (old : Entries) (key : KeyParts) (kept : KeptState) (fresh : Option Fresh) → IsFirst kept fresh → (added : Entries) → added ≡ with_kept old key kept

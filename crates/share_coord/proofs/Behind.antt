@@ -19,14 +19,14 @@ use Rattle.coord_checkpoint.proofs.Ends.{fit_of}
 use Rattle.coord_checkpoint.proofs.Made.{failed_later}
 use Rattle.state_records.specs.Spelling.{record_bytes}
 use Rattle.state_records.specs.declared.record.StateRecord.{StateRecord}
-use Rattle.share_coord.specs.Calls.{IsWritten, write_refusal, written_of}
-use Rattle.share_coord.specs.Holding.{IsHeld, IsWithin, Tidies, WritesOnce, WritesTidied}
+use Rattle.share_coord.specs.Calls.{IsWritten, counted, write_refusal, written_of}
+use Rattle.share_coord.specs.Holding.{GoesTo, IsHeld, IsWithin, Tidies, WritesOnce, WritesTidied}
 use Rattle.share_coord.specs.Parts.{KeptState, StoreParts}
 use Rattle.share_coord.specs.Putting.{stored_as}
-use Rattle.share_coord.specs.Recorded.{HasRoomFor, IsBased, IsPending, IsStored, IsWriteRecord, StoresOne, write_record}
+use Rattle.share_coord.specs.Recorded.{HasRoomFor, IsBased, IsPending, IsStored, IsWriteRecord, StoresOne, start_told, write_record}
 use Rattle.share_coord.specs.Rooms.{IsGranted, IsOwnRecord, IsOwnWritten}
 use Rattle.share_coord.specs.States.{states_of}
-use Rattle.share_coord.specs.Stored.{Accepts, Entries, based, based_kept, kept_at, snapshot_frames, with_kept}
+use Rattle.share_coord.specs.Stored.{Entries, based, based_kept, kept_at, renewed, renewed_kept, snapshot_frames, with_kept}
 use Rattle.share_coord.specs.declared.fault.CoordFault.TheVariants.{Store as store_fault}
 use Rattle.share_coord.proofs.Held.{states_based}
 use Rattle.share_coord.proofs.Keys.{kept_based, some_is}
@@ -41,6 +41,16 @@ refusal_based : (c : Bool) (kept : KeptState) (state leader start : ℤ) (runs :
     → write_refusal (Some (based_kept c kept)) state leader start runs ≡ write_refusal (Some kept) state leader start runs
 refusal_based true kept state leader start runs = refl
 refusal_based false kept state leader start runs = refl
+
+-- behind it no start was raised since a record was written, so its updates count as they are
+counted_based : (c : Bool) (kept : KeptState) (start : ℤ)
+    → counted (based_kept c kept) (start_after (based_kept c kept).view.start start) ≡ based_kept c (counted kept (start_after kept.view.start start))
+counted_based true kept start = refl
+counted_based false kept start = refl
+
+told_based : (c : Bool) (kept : KeptState) (start : ℤ) → start_told (based_kept c kept) start ≡ start_told kept start
+told_based true kept start = refl
+told_based false kept start = refl
 
 module _ (es : Entries) (key : KeyParts) (start : ℤ) (runs : List Run) (c : Bool) where
   -- what is granted before the checkpoint is granted behind it
@@ -86,8 +96,11 @@ module _ (es : Entries) (key : KeyParts) (start : ℤ) (runs : List Run) (c : Bo
           few_written = w.few_written;
           few = w.few;
           is = w.is
-              ∙ (ap (λ (b : Bool). with_kept (based b (based c es)) key (written_of (based_kept b w.kept) kept.view.state_epoch kept.view.leader_epoch start w.laid)) m.1
-              ∙ ap (λ (k : KeptState). with_kept (based c es) key (written_of k kept.view.state_epoch kept.view.leader_epoch start w.laid)) (same_kept w.kept w.known));
+              ∙ (ap (λ (b : Bool). with_kept (based b (based c es)) key
+              (written_of (based_kept b (counted w.kept (start_after w.kept.view.start start))) kept.view.state_epoch kept.view.leader_epoch start w.laid)) m.1
+              ∙ (ap (λ (k : KeptState). with_kept (based c es) key
+              (written_of (counted k (start_after k.view.start start)) kept.view.state_epoch kept.view.leader_epoch start w.laid)) (same_kept w.kept w.known)
+              ∙ ap (λ (k : KeptState). with_kept (based c es) key (written_of k kept.view.state_epoch kept.view.leader_epoch start w.laid)) (counted_based c kept start)));
         }
 
     abbrev Stores : StateRecord → ShareState → Type 0
@@ -107,8 +120,11 @@ module _ (es : Entries) (key : KeyParts) (start : ℤ) (runs : List Run) (c : Bo
           are_written = w.are_written;
           are_laid = subst (λ (v : ShareState). AreLaid (start_after v.start start) v.runs w.written w.laid) (same_view w.kept w.known) w.are_laid;
           is = w.is
-              ∙ (ap (λ (b : Bool). write_record key (based_kept b w.kept) kept.view.state_epoch kept.view.leader_epoch start w.written w.laid) m.1
-              ∙ ap (λ (k : KeptState). write_record key k kept.view.state_epoch kept.view.leader_epoch start w.written w.laid) (same_kept w.kept w.known));
+              ∙ (ap (λ (b : Bool). write_record key (based_kept b (counted w.kept (start_after w.kept.view.start start)))
+              kept.view.state_epoch kept.view.leader_epoch (start_told w.kept start) w.written w.laid) m.1
+              ∙ (ap (λ (k : KeptState). write_record key (counted k (start_after k.view.start start))
+              kept.view.state_epoch kept.view.leader_epoch (start_told k start) w.written w.laid) (same_kept w.kept w.known)
+              ∙ λ i. write_record key (counted_based c kept start i) kept.view.state_epoch kept.view.leader_epoch (told_based c kept start i) w.written w.laid));
         }
 
 -- ---- the disk that was live before the checkpoint
@@ -149,6 +165,19 @@ module _ {D T E : Type 0} (seen : D → DiskView) (snapshots : List (List ℕ)) 
   one_quiet false tries quiet = still_live old.on_second refl (tries.turned.1 refl) tries.live quiet
 
 -- ---- both calls
+
+renewed_again : (es : Entries) → renewed (renewed es) ≡ renewed es
+renewed_again [] = refl
+renewed_again (e ∷ es) = ap (λ (l : Entries). (e.0, renewed_kept e.1) ∷ l) (renewed_again es)
+
+renewed_based : (b : Bool) (es : Entries) → renewed (based b es) ≡ renewed es
+renewed_based true es = renewed_again es
+renewed_based false es = refl
+
+-- one of both made a checkpoint, or none did
+based_both : (a b : Bool) (old mid new : Entries) → new ≡ based a mid → mid ≡ based b old → (c : Bool) × (new ≡ based c old)
+based_both true b old mid new n m = (true, n ∙ (ap renewed m ∙ renewed_based b old))
+based_both false b old mid new n m = (b, n ∙ m)
 
 last_fits : (frames : List (List ℕ)) (frame : List ℕ) → AllByRecursion IsFrame (frames ++ frame ∷ []) → IsFrame frame
 last_fits [] frame h = h.0
@@ -211,12 +240,12 @@ module _ {D : Type 0} (seen : D → DiskView) (old mid new : StoreParts D) (key 
   told_full (Err (Full n)) end is = cc
 
   full : (end : ℕ) → stored_as told ≡ Err (store_fault (Full end)) → (end ≡ old.journal.end)
-      × ((frame : List ℕ) × (lost : Entries) × Written lost × Accepts old.entries frame lost × IsFrame frame × (2 ^ 62 < end + (length frame + 5)))
+      × ((frame : List ℕ) × (lost : Entries) × Written lost × GoesTo old.entries frame lost × IsFrame frame × (2 ^ 62 < end + (length frame + 5)))
   full end is =
       let same = still end (told_full told end is) in
       let f = once.full end is in (
         f.0 ∙ ap (λ (s : StoreParts D). s.journal.end) same,
-        (f.1.0, f.1.1, written_as f.1.1 f.1.2, subst (λ (s : StoreParts D). Accepts s.entries f.1.0 f.1.1) same f.1.3, f.1.4, f.1.5),
+        (f.1.0, f.1.1, written_as f.1.1 f.1.2, subst (λ (s : StoreParts D). GoesTo s.entries f.1.0 f.1.1) same f.1.3, f.1.4, f.1.5),
       )
 
   within : (pending : Option Entries) (a b : List ℕ) → IsWithin (IsOwnWritten mid.entries key start runs) mid.entries pending a b
@@ -232,6 +261,7 @@ module _ {D : Type 0} (seen : D → DiskView) (old mid new : StoreParts D) (key 
     written = on_ok_weaker (stored_as told) (written_as new.entries) once.written;
     kept = on_ok_weaker (stored_as told) (λ h pending was. h pending (tidies.kept pending was)) once.kept;
     same = on_err_weaker (stored_as told) (λ is. is ∙ (ap states_of tidies.is ∙ states_based tidies.checkpointed old.entries)) once.same;
+    left = on_err_weaker (stored_as told) (λ h. based_both h.0 tidies.checkpointed old.entries mid.entries new.entries h.1 tidies.is) once.left;
     unchanged = unchanged told refl;
     failed = on_err_weaker (stored_as told) (λ h pending was. ⊎_elim (λ x. inl x) (λ x. inr (x.0, written_as x.0 x.1, x.2)) (h pending (tidies.kept pending was))) once.failed;
     device = λ is. let x = once.device is in (

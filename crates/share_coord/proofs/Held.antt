@@ -1,4 +1,4 @@
--- What a store holds, one record further.
+-- What a store holds, one record further. `entries` are what is kept, `written` is what the records give.
 use Rattle.std.proofs.Common.{◌≡◌, ◌⊎◌, ◌<◌, ◌^◌, inl, inr, ⊎_elim, refl, sym, ap, subst, arith, ℕ, List, [], ◌∷◌, ◌++◌, length}
 use Rattle.std.proofs.Common.{Bool, true, false, Option, Some, None, length-append}
 use Rattle.std.specs.List.Sorted.{IsStrictlySortedBy}
@@ -11,14 +11,17 @@ use Rattle.checkpoint_journal.specs.Generations.{IsListed}
 use Rattle.coord_checkpoint.specs.Stores.{Finds, IsBase, IsLeft, Keeps, StoreParts as JournalParts}
 use Rattle.state_records.specs.Spelling.{IsRecord, record_bytes}
 use Rattle.state_records.specs.declared.record.StateRecord.{StateRecord}
-use Rattle.share_coord.specs.Stored.{Entries, Accepts, AreTaken, Follows, based, records_from, renewed, snapshot_frames}
-use Rattle.share_coord.specs.States.{AreStates, states_of}
-use Rattle.share_coord.specs.Holding.{Holds, IsWithin, Leaves, StandWith}
+use Rattle.share_coord.specs.Planning.{LeadsTo}
+use Rattle.share_coord.specs.Stored.{Entries, Accepts, AreTaken, based, records_from, renewed, settled, snapshot_frames}
+use Rattle.share_coord.specs.States.{states_of}
+use Rattle.share_coord.specs.Unwritten.{AreKeptOf, AreStatesOf}
+use Rattle.share_coord.specs.Holding.{Holds, IsWithin, Leaves, StandWith, StandsFor}
 use Rattle.share_coord.specs.Putting.{HasNotPut, HasPut, IsPut, IsPutWithin}
 use Rattle.share_coord.specs.declared.walk.Walk.TheVariants.{First}
 use Rattle.share_model.specs.Keys.{KeyParts}
 use Rattle.share_model.specs.ShareStates.{ShareState}
-use Rattle.share_coord.proofs.Renewing.{are_snapshots, fit_all, renews}
+use Rattle.share_coord.proofs.Renewing.{AreFit, are_snapshots, fit_all, kept_fit, renews}
+use Rattle.share_coord.proofs.Unwritten.{settled_of, settled_views, views_of}
 use Rattle.share_coord.proofs.Walking.{taken_checkpoint, taken_then}
 
 -- ---- the states of entries
@@ -31,81 +34,120 @@ pub states_based : (c : Bool) (es : Entries) → states_of (based c es) ≡ stat
 states_based false es = refl
 states_based true es = states_renewed es
 
-pub stands_now : (a b : List ℕ) (entries : Entries) (pending : Option Entries) → AreStates a b (states_of entries) → StandWith a b entries pending
+pub stands_now : (a b : List ℕ) (entries : Entries) (pending : Option Entries) → AreStatesOf a b entries → StandWith a b entries pending
 stands_now a b entries None h = h
-stands_now a b entries (Some new) h = inl h
+stands_now a b entries (Some lost) h = inl h
 
-stands_then : (a b : List ℕ) (entries new : Entries) (pending : Option Entries) → pending ≡ Some new → AreStates a b (states_of new) → StandWith a b entries pending
-stands_then a b entries new pending is h = subst (λ (p : Option Entries). StandWith a b entries p) (sym is) (inr h)
+stands_then : (a b : List ℕ) (entries lost : Entries) (pending : Option Entries) → pending ≡ Some lost → AreStatesOf a b lost → StandWith a b entries pending
+stands_then a b entries lost pending is h = subst (λ (p : Option Entries). StandWith a b entries p) (sym is) (inr h)
 
 -- frames that stand for entries, found on the disks
-pub states_by : (a b : List ℕ) (found : List (List ℕ)) (es : Entries) → IsListed a b found → AreTaken found es → AreStates a b (states_of es)
-states_by a b found es listed taken = record { entries = es; stored = record { frames = found; listed = listed; taken = taken }; is = refl }
+pub states_by : (a b : List ℕ) (found : List (List ℕ)) (es : Entries) → IsListed a b found → StandsFor found es → AreStatesOf a b es
+states_by a b found es listed stands = record {
+  written = stands.0;
+  stored = record { frames = found; listed = listed; taken = stands.1 };
+  are = stands.2;
+}
 
--- entries as a checkpoint leaves them
-pub states_as : (a b : List ℕ) (es : Entries) → AreStates a b (states_of (renewed es)) → AreStates a b (states_of es)
-states_as a b es h = subst (AreStates a b) (states_renewed es) h
+-- frames whose records give what is written of them
+pub stands_by : (frames : List (List ℕ)) (written es : Entries) → AreTaken frames written → AreKeptOf written es → StandsFor frames es
+stands_by frames written es taken kept = (written, taken, views_of written es kept)
+
+found_by : (found frames : List (List ℕ)) (es : Entries) → found ≡ frames → StandsFor frames es → StandsFor found es
+found_by found frames es is h = subst (λ (l : List (List ℕ)). StandsFor l es) (sym is) h
 
 -- what is left stands for the states, with or without what is pending
-pub left_stands : (a b : List ℕ) (entries : Entries) (frames : List (List ℕ)) (sealing : Option (List (List ℕ))) (unwritten : Option (List ℕ)) (pending : Option Entries)
-    → AreTaken frames entries → Leaves entries unwritten pending
-    → ((landed : List (List ℕ)) → sealing ≡ Some landed → AreTaken landed (renewed entries))
+pub left_stands : (a b : List ℕ) (entries written : Entries) (frames : List (List ℕ)) (sealing : Option (List (List ℕ))) (unwritten : Option (List ℕ)) (pending : Option Entries)
+    → AreTaken frames written → AreKeptOf written entries → Leaves written unwritten pending
+    → ((landed : List (List ℕ)) → sealing ≡ Some landed → StandsFor landed entries)
     → (found : List (List ℕ)) → IsListed a b found → IsLeft frames sealing unwritten found → StandWith a b entries pending
-left_stands a b entries frames sealing unwritten pending taken leaves sealed found listed (inl is) =
-    stands_now a b entries pending (states_by a b found entries listed (subst (λ (l : List (List ℕ)). AreTaken l entries) (sym is) taken))
-left_stands a b entries frames sealing unwritten pending taken leaves sealed found listed (inr (inl is)) =
-    stands_now a b entries pending (states_as a b entries (states_by a b found (renewed entries) listed (sealed found is)))
-left_stands a b entries frames sealing unwritten pending taken leaves sealed found listed (inr (inr h)) =
+left_stands a b entries written frames sealing unwritten pending taken kept leaves sealed found listed (inl is) =
+    stands_now a b entries pending (states_by a b found entries listed (found_by found frames entries is (stands_by frames written entries taken kept)))
+left_stands a b entries written frames sealing unwritten pending taken kept leaves sealed found listed (inr (inl is)) =
+    stands_now a b entries pending (states_by a b found entries listed (sealed found is))
+left_stands a b entries written frames sealing unwritten pending taken kept leaves sealed found listed (inr (inr h)) =
     let frame = h.0 in
-    let more : Leaves entries (Some frame) pending = subst (λ (u : Option (List ℕ)). Leaves entries u pending) h.1 leaves in
-    stands_then a b entries more.0 pending more.1
-    (states_by a b found more.0 listed (subst (λ (l : List (List ℕ)). AreTaken l more.0) (sym h.2) (taken_then frames frame entries more.0 taken more.2)))
+    let more : Leaves written (Some frame) pending = subst (λ (u : Option (List ℕ)). Leaves written u pending) h.1 leaves in
+    stands_then a b entries more.1 pending more.2
+    (states_by a b found more.1 listed
+    (found_by found (frames ++ frame ∷ []) more.1 h.2 (stands_by (frames ++ frame ∷ []) more.0 more.1 (taken_then frames frame written more.0 taken more.3) more.4)))
 
-pub holds_by : {D : Type 0} (seen : D → DiskView) (journal : JournalParts D) (entries : Entries) (room : ℕ) (frames : List (List ℕ)) (sealing : Option (List (List ℕ)))
-    (unwritten : Option (List ℕ)) (pending : Option Entries) → Keeps seen journal frames sealing unwritten → AreTaken frames entries
-    → length frames < 2 ^ 63 → Leaves entries unwritten pending
-    → ((landed : List (List ℕ)) → sealing ≡ Some landed → AreTaken landed (renewed entries))
+pub holds_by : {D : Type 0} (seen : D → DiskView) (journal : JournalParts D) (entries written : Entries) (room : ℕ) (frames : List (List ℕ)) (sealing : Option (List (List ℕ)))
+    (unwritten : Option (List ℕ)) (pending : Option Entries) → Keeps seen journal frames sealing unwritten → AreTaken frames written → AreKeptOf written entries
+    → length frames < 2 ^ 63 → Leaves written unwritten pending
+    → ((landed : List (List ℕ)) → sealing ≡ Some landed → StandsFor landed entries)
     → Holds seen (record { journal = journal; entries = entries; room = room }) pending
-holds_by seen journal entries room frames sealing unwritten pending keeps taken few leaves sealed = record {
+holds_by seen journal entries written room frames sealing unwritten pending keeps taken kept few leaves sealed = record {
   frames = frames;
   unwritten = unwritten;
   sealing = sealing;
   keeps = keeps;
+  written = written;
   taken = taken;
+  kept = kept;
   few = few;
   leaves = leaves;
   sealed = sealed;
   images = λ a b on_a on_b.
       let found = keeps.images a b on_a on_b in
-      left_stands a b entries frames sealing unwritten pending taken leaves sealed found.0 found.1 found.2;
+      left_stands a b entries written frames sealing unwritten pending taken kept leaves sealed found.0 found.1 found.2;
 }
 
-pub none_lands : (entries : Entries) (landed : List (List ℕ)) → ◌≡◌ {A = Option (List (List ℕ))} None (Some landed) → AreTaken landed (renewed entries)
+pub none_lands : (entries : Entries) (landed : List (List ℕ)) → ◌≡◌ {A = Option (List (List ℕ))} None (Some landed) → StandsFor landed entries
 none_lands entries landed is = let never : ⊥ = cc in absurd never
 
 -- ---- a checkpoint of all keys
 
-pub checkpoint_taken : (entries : Entries) → IsStrictlySortedBy key_cmp (keys_of entries) → (frames base : List (List ℕ)) → AreTaken frames entries → IsCheckpoint (snapshot_frames entries) base → AreTaken base (renewed entries)
-checkpoint_taken entries sorted frames base taken is =
-    let fit = fit_all (records_from First frames) [] entries taken (tt, tt) in
-    subst (λ (l : List (List ℕ)). AreTaken l (renewed entries)) (sym is.is)
-    (taken_checkpoint is.generation (snapshot_frames entries) (renewed entries) is.fits (are_snapshots entries fit) (renews entries sorted fit))
+-- what is kept can be stored
+pub fit_kept : (frames : List (List ℕ)) (written entries : Entries) → AreTaken frames written → AreKeptOf written entries → AreFit entries
+fit_kept frames written entries taken kept = kept_fit written entries kept (fit_all (records_from First frames) [] written taken (tt, tt))
+
+pub checkpoint_taken : (entries written : Entries) → IsStrictlySortedBy key_cmp (keys_of entries) → (frames base : List (List ℕ)) → AreTaken frames written
+    → AreKeptOf written entries → IsCheckpoint (snapshot_frames entries) base → AreTaken base (settled entries)
+checkpoint_taken entries written sorted frames base taken kept is =
+    let fit = fit_kept frames written entries taken kept in
+    subst (λ (l : List (List ℕ)). AreTaken l (settled entries)) (sym is.is)
+    (taken_checkpoint is.generation (snapshot_frames entries) (settled entries) is.fits (are_snapshots entries fit) (renews entries sorted fit))
+
+-- it stands for the states
+pub checkpoint_stands : (entries written : Entries) → IsStrictlySortedBy key_cmp (keys_of entries) → (frames base : List (List ℕ)) → AreTaken frames written
+    → AreKeptOf written entries → IsCheckpoint (snapshot_frames entries) base → StandsFor base entries
+checkpoint_stands entries written sorted frames base taken kept is = (
+  settled entries,
+  checkpoint_taken entries written sorted frames base taken kept is,
+  settled_views written entries kept,
+)
+
+-- what is written where a checkpoint was made, or none
+abbrev pub base_of : Bool → Entries → Entries → Entries
+base_of false written entries = written
+base_of true written entries = settled entries
 
 -- ---- one record more
 
 module _ {D : Type 0} (seen : D → DiskView) (plain : StateRecord) (fresh : Option StateRecord) (old new : JournalParts D) (entries : Entries) (room : ℕ)
     (sorted : IsStrictlySortedBy key_cmp (keys_of entries)) (next : Bool → Entries)
-    (follows : (c : Bool) (one : StateRecord) → IsPut plain fresh c one → Follows (based c entries) one (next c)) where
-  base_taken : (c : Bool) (frames base : List (List ℕ)) → AreTaken frames entries → IsBase frames (snapshot_frames entries) c base → AreTaken base (based c entries)
-  base_taken false frames base taken from = subst (λ (l : List (List ℕ)). AreTaken l entries) (sym from) taken
-  base_taken true frames base taken from = checkpoint_taken entries sorted frames base taken from
+    (follows : (c : Bool) (one : StateRecord) → IsPut plain fresh c one → (base : Entries) → AreKeptOf base (based c entries) → LeadsTo base one (next c)) where
+  base_taken : (c : Bool) (frames base : List (List ℕ)) (written : Entries) → AreTaken frames written → AreKeptOf written entries
+      → IsBase frames (snapshot_frames entries) c base → AreTaken base (base_of c written entries)
+  base_taken false frames base written taken kept from = subst (λ (l : List (List ℕ)). AreTaken l written) (sym from) taken
+  base_taken true frames base written taken kept from = checkpoint_taken entries written sorted frames base taken kept from
+
+  base_kept : (c : Bool) (written : Entries) → AreKeptOf written entries → AreKeptOf (base_of c written entries) (based c entries)
+  base_kept false written kept = kept
+  base_kept true written kept = settled_of entries
 
   base_few : (c : Bool) (frames base : List (List ℕ)) → length frames < 2 ^ 63 → IsBase frames (snapshot_frames entries) c base → length base < 2 ^ 63
   base_few false frames base few from = subst (λ (l : List (List ℕ)). length l < 2 ^ 63) (sym from) few
   base_few true frames base few from = from.few
 
-  pub accepts : (c : Bool) (one : StateRecord) → IsPut plain fresh c one → IsRecord one → Accepts (based c entries) (record_bytes one) (next c)
-  accepts c one is valid = record { written = one; valid = valid; bytes = refl; follows = follows c one is }
+  abbrev Accepted : Bool → StateRecord → Entries → Type 0
+  Accepted c one written = (left : Entries) × Accepts (base_of c written entries) (record_bytes one) left × AreKeptOf left (next c)
+
+  pub accepts : (c : Bool) (one : StateRecord) → IsPut plain fresh c one → IsRecord one → (written : Entries) → AreKeptOf written entries → Accepted c one written
+  accepts c one is valid written kept =
+      let l = follows c one is (base_of c written entries) (base_kept c written kept) in
+      (l.0, record { written = one; valid = valid; bytes = refl; follows = l.1 }, l.2)
 
   -- the record is written
   pub done : (c : Bool) → ((frames : List (List ℕ)) (sealing : Option (List (List ℕ))) (pending : Option (List ℕ)) → Keeps seen old frames sealing pending
@@ -115,24 +157,26 @@ module _ {D : Type 0} (seen : D → DiskView) (plain : StateRecord) (fresh : Opt
   done c keeps pending held =
       let h = keeps held.frames held.sealing held.unwritten held.keeps in
       let few = h.few in
-      holds_by seen new (next c) room (h.base ++ record_bytes h.one ∷ []) None None None h.keeps
-      (taken_then h.base (record_bytes h.one) (based c entries) (next c) (base_taken c held.frames h.base held.taken h.from) (accepts c h.one h.is h.valid))
+      let a = accepts c h.one h.is h.valid held.written held.kept in
+      holds_by seen new (next c) a.0 room (h.base ++ record_bytes h.one ∷ []) None None None h.keeps
+      (taken_then h.base (record_bytes h.one) (base_of c held.written entries) a.0 (base_taken c held.frames h.base held.written held.taken held.kept h.from) a.1) a.2
       (omega (arith, few, length-append h.base (record_bytes h.one ∷ []))) tt (none_lands (next c))
 
   module _ (Written : Entries → Type 0) (is : (c : Bool) (one : StateRecord) → IsPut plain fresh c one → Written (next c)) where
-    landed_taken : (c : Bool) (frames : List (List ℕ)) (sealing : Option (List (List ℕ))) (landed : List (List ℕ)) → AreTaken frames entries
-        → ((l : List (List ℕ)) → sealing ≡ Some l → AreTaken l (renewed entries))
-        → (c ≡ false) × ((sealing ≡ Some landed) ⊎ IsCheckpoint (snapshot_frames entries) landed) → AreTaken landed (renewed (based c entries))
-    landed_taken false frames sealing landed taken sealed h = ⊎_elim (λ e. sealed landed e) (λ k. checkpoint_taken entries sorted frames landed taken k) h.1
-    landed_taken true frames sealing landed taken sealed h = let never : ⊥ = absurd_bool h.0 in absurd never
+    landed_stands : (c : Bool) (frames : List (List ℕ)) (sealing : Option (List (List ℕ))) (landed : List (List ℕ)) (written : Entries) → AreTaken frames written
+        → AreKeptOf written entries → ((l : List (List ℕ)) → sealing ≡ Some l → StandsFor l entries)
+        → (c ≡ false) × ((sealing ≡ Some landed) ⊎ IsCheckpoint (snapshot_frames entries) landed) → StandsFor landed (based c entries)
+    landed_stands false frames sealing landed written taken kept sealed h =
+        ⊎_elim (λ e. sealed landed e) (λ k. checkpoint_stands entries written sorted frames landed taken kept k) h.1
+    landed_stands true frames sealing landed written taken kept sealed h = let never : ⊥ = absurd_bool h.0 in absurd never
       where
         absurd_bool : true ≡ false → ⊥
         absurd_bool e = cc
 
-    leaves_by : (c : Bool) (waits unwritten : Option (List ℕ)) (pending : Option Entries) → Leaves entries unwritten pending → (c ≡ false) × (waits ≡ unwritten)
-        → Leaves (based c entries) waits pending
-    leaves_by false waits unwritten pending leaves h = subst (λ (u : Option (List ℕ)). Leaves entries u pending) (sym h.1) leaves
-    leaves_by true waits unwritten pending leaves h = let never : ⊥ = absurd_bool h.0 in absurd never
+    leaves_by : (c : Bool) (waits unwritten : Option (List ℕ)) (pending : Option Entries) (written : Entries) → Leaves written unwritten pending
+        → (c ≡ false) × (waits ≡ unwritten) → Leaves (base_of c written entries) waits pending
+    leaves_by false waits unwritten pending written leaves h = subst (λ (u : Option (List ℕ)). Leaves written u pending) (sym h.1) leaves
+    leaves_by true waits unwritten pending written leaves h = let never : ⊥ = absurd_bool h.0 in absurd never
       where
         absurd_bool : true ≡ false → ⊥
         absurd_bool e = cc
@@ -145,36 +189,40 @@ module _ {D : Type 0} (seen : D → DiskView) (plain : StateRecord) (fresh : Opt
         ⊎ ((left : Entries) × Written left × Holds seen (record { journal = new; entries = based c entries; room = room }) (Some left))
     lost c keeps pending held =
         let h = keeps held.frames held.sealing held.unwritten held.keeps in
-        let taken = base_taken c held.frames h.base held.taken h.from in
+        let base = base_of c held.written entries in
+        let taken = base_taken c held.frames h.base held.written held.taken held.kept h.from in
+        let kept = base_kept c held.written held.kept in
         let few = base_few c held.frames h.base held.few h.from in
-        let sealed : (landed : List (List ℕ)) → h.seals ≡ Some landed → AreTaken landed (renewed (based c entries)) =
-        λ landed at. landed_taken c held.frames held.sealing landed held.taken held.sealed (h.may landed at) in
-        let stays : Leaves (based c entries) h.waits pending → Holds seen (record { journal = new; entries = based c entries; room = room }) pending =
-        λ leaves. holds_by seen new (based c entries) room h.base h.seals h.waits pending h.keeps taken few leaves sealed in
-        ⊎_elim (λ none. inl (stays (subst (λ (u : Option (List ℕ)). Leaves (based c entries) u pending) (sym none) tt)))
-        (λ other. ⊎_elim (λ was. inl (stays (leaves_by c h.waits held.unwritten pending held.leaves was)))
-        (λ this. inr (
+        let sealed : (landed : List (List ℕ)) → h.seals ≡ Some landed → StandsFor landed (based c entries) =
+        λ landed at. landed_stands c held.frames held.sealing landed held.written held.taken held.kept held.sealed (h.may landed at) in
+        let stays : Leaves base h.waits pending → Holds seen (record { journal = new; entries = based c entries; room = room }) pending =
+        λ leaves. holds_by seen new (based c entries) base room h.base h.seals h.waits pending h.keeps taken kept few leaves sealed in
+        ⊎_elim (λ none. inl (stays (subst (λ (u : Option (List ℕ)). Leaves base u pending) (sym none) tt)))
+        (λ other. ⊎_elim (λ was. inl (stays (leaves_by c h.waits held.unwritten pending held.written held.leaves was)))
+        (λ this. let a = accepts c this.0 this.1 this.2 held.written held.kept in inr (
           next c,
           is c this.0 this.1,
-          holds_by seen new (based c entries) room h.base h.seals h.waits (Some (next c)) h.keeps taken few
-              (subst (λ (u : Option (List ℕ)). Leaves (based c entries) u (Some (next c))) (sym this.3) (next c, refl, accepts c this.0 this.1 this.2)) sealed,
+          holds_by seen new (based c entries) base room h.base h.seals h.waits (Some (next c)) h.keeps taken kept few
+              (subst (λ (u : Option (List ℕ)). Leaves base u (Some (next c))) (sym this.3) (a.0, next c, refl, a.1, a.2)) sealed,
         )) other) h.which
 
     within : (a b : List ℕ) (pending : Option Entries) (held : Holds seen (record { journal = old; entries = entries; room = room }) pending) (found : List (List ℕ)) → IsListed a b found
         → IsPutWithin held.frames held.sealing held.unwritten (snapshot_frames entries) plain fresh found → IsWithin Written entries pending a b
     within a b pending held found listed (inl left) =
-        inl (left_stands a b entries held.frames held.sealing held.unwritten pending held.taken held.leaves held.sealed found listed left)
+        inl (left_stands a b entries held.written held.frames held.sealing held.unwritten pending held.taken held.kept held.leaves held.sealed found listed left)
     within a b pending held found listed (inr (inl k)) =
-        inl (stands_now a b entries pending (states_as a b entries (states_by a b found (renewed entries) listed (checkpoint_taken entries sorted held.frames found held.taken k))))
+        inl (stands_now a b entries pending (states_by a b found entries listed (checkpoint_stands entries held.written sorted held.frames found held.taken held.kept k)))
     within a b pending held found listed (inr (inr h)) =
         let c = h.0 in
         let base = h.1 in
         let one = h.2 in
+        let l = accepts c one h.4 h.5 held.written held.kept in
+        let front = base_taken c held.frames base held.written held.taken held.kept h.3 in
         inr (
           next c,
           is c one h.4,
-          states_by a b found (next c) listed (subst (λ (l : List (List ℕ)). AreTaken l (next c)) (sym h.6)
-              (taken_then base (record_bytes one) (based c entries) (next c) (base_taken c held.frames base held.taken h.3) (accepts c one h.4 h.5))),
+          states_by a b found (next c) listed (found_by found (base ++ record_bytes one ∷ []) (next c) h.6
+              (stands_by (base ++ record_bytes one ∷ []) l.0 (next c) (taken_then base (record_bytes one) (base_of c held.written entries) l.0 front l.1) l.2)),
         )
 
     pub moments : ((frames : List (List ℕ)) (sealing : Option (List (List ℕ))) (pending : Option (List ℕ)) → Keeps seen old frames sealing pending

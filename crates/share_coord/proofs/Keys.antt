@@ -157,10 +157,5 @@ pub none_based : (c : Bool) (es : Entries) (key : KeyParts) → kept_at es key �
 none_based false es key is = is
 none_based true es key is = kept_renewed es key ∙ ap (option_map renewed_kept) is
 
-pub removes : (c : Bool) (es : Entries) (key : KeyParts) → IsSome (kept_at es key) → Follows (based c es) (Removal key) (without_key (based c es) key)
-removes c es key there =
-    let known = known_by (kept_at es key) there in
-    record { kept = based_kept c known.0; known = kept_based c es key known.0 known.1; is = refl }
-
 pub forgets : (c : Bool) (es : Entries) (key : KeyParts) → IsSome (kept_at es key) → IsForgotten es key (without_key (based c es) key)
 forgets c es key there = (known_by (kept_at es key) there, (c, refl))

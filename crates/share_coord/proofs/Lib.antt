@@ -1,6 +1,9 @@
 pub mod Faults
 pub mod Held
 pub mod Keys
+pub mod Raising
+pub mod Unwritten
+pub mod Unraised
 pub mod Once
 pub mod Numeric
 pub mod Reading
@@ -15,6 +18,7 @@ pub mod Renewing
 pub mod Walking
 pub mod Putting
 pub mod Handing
+pub mod Leading
 pub mod Planning
 pub mod Basing
 pub mod Starting
@@ -26,3 +30,5 @@ pub mod Framed
 pub mod Owning
 pub mod Tidied
 pub mod Behind
+pub mod Lifting
+pub mod Recovered

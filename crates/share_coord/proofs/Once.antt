@@ -15,8 +15,10 @@ use Rattle.state_records.specs.Spelling.{record_bytes}
 use Rattle.state_records.specs.declared.record.StateRecord.{StateRecord}
 use Rattle.share_coord.specs.Parts.{StoreParts}
 use Rattle.share_coord.specs.Putting.{IsPut, Puts}
-use Rattle.share_coord.specs.Stored.{Entries, Follows, based, snapshot_frames}
+use Rattle.share_coord.specs.Planning.{LeadsTo}
+use Rattle.share_coord.specs.Stored.{Entries, based, snapshot_frames}
 use Rattle.share_coord.specs.Calls.{Causes}
+use Rattle.share_coord.specs.Unwritten.{AreKeptOf}
 use Rattle.share_coord.specs.Holding.{Holds, IsHeld, WritesOnce}
 use Rattle.share_coord.specs.declared.fault.CoordFault.{CoordFault}
 use Rattle.share_coord.specs.declared.fault.CoordFault.TheVariants.{Store, NoMemory}
@@ -33,6 +35,7 @@ untouched seen Failed only_now Written store e other = record {
   written = tt;
   kept = tt;
   same = refl;
+  left = (false, refl);
   unchanged = λ _. refl;
   failed = λ pending held. inl held;
   device = λ is. absurd (other Device (err_of e _ is));
@@ -55,7 +58,7 @@ if_err_at {T} {E} r e P is h = subst (λ (q : Result T E). IfErr q P) is h
 
 module _ {D : Type 0} (seen : D → DiskView) (plain : StateRecord) (fresh : Option StateRecord) (old new : JournalParts D) (entries : Entries) (room : ℕ)
     (sorted : IsStrictlySortedBy key_cmp (keys_of entries)) (next : Bool → Entries)
-    (follows : (c : Bool) (one : StateRecord) → IsPut plain fresh c one → Follows (based c entries) one (next c))
+    (follows : (c : Bool) (one : StateRecord) → IsPut plain fresh c one → (base : Entries) → AreKeptOf base (based c entries) → LeadsTo base one (next c))
     (Written : Entries → Type 0) (is : (c : Bool) (one : StateRecord) → IsPut plain fresh c one → Written (next c))
     (fits : IsFrame (record_bytes plain)) (held : IsHeld seen (record { journal = old; entries = entries; room = room })) (c : Bool) (r : Result (Unit {0}) CoordFault)
     (puts : Puts seen (snapshot_frames entries) plain fresh old new c r) where
@@ -65,6 +68,7 @@ module _ {D : Type 0} (seen : D → DiskView) (plain : StateRecord) (fresh : Opt
     written = is c puts.chosen puts.is;
     kept = done seen plain fresh old new entries room sorted next follows c (on_ok_at r tt _ at puts.kept);
     same = tt;
+    left = tt;
     unchanged = tt;
     failed = tt;
     device = λ e. absurd (ok_is_no_err x _ e);
@@ -98,12 +102,14 @@ module _ {D : Type 0} (seen : D → DiskView) (plain : StateRecord) (fresh : Opt
     written = tt;
     kept = tt;
     same = states_based c entries;
+    left = (c, refl);
     unchanged = λ other. let s = same_store e at other in λ i. record { journal = s.0 i; entries = ap (λ (b : Bool). based b entries) s.1 i; room = room };
     failed = lost seen plain fresh old new entries room sorted next follows Written is c (on_err_at r e _ at puts.failed);
     device = λ here. (puts.device (at ∙ ap Err (err_of e _ here)), (next c, is c puts.chosen puts.is));
     full = λ end here.
         let f = puts.full held.1.frames held.1.sealing held.1.unwritten held.1.keeps end (at ∙ ap Err (err_of e _ here)) in
-        (f.0, (record_bytes plain, next false, is false plain refl, accepts seen plain fresh old new entries room sorted next follows false plain refl f.1, fits, f.2));
+        let a = accepts seen plain fresh old new entries room sorted next follows false plain refl f.1 held.1.written held.1.kept in
+        (f.0, (record_bytes plain, next false, is false plain refl, (held.1.written, a.0, held.1.kept, a.1, a.2), fits, f.2));
     any_moment = moments seen plain fresh old new entries room sorted next follows Written is puts.any_moment;
   }
 
@@ -140,6 +146,7 @@ rewritten seen Failed P Q old new r f once = record {
   written = on_ok_weaker r (f new.entries) once.written;
   kept = once.kept;
   same = once.same;
+  left = once.left;
   unchanged = once.unchanged;
   failed = on_err_weaker r (λ h pending held. ⊎_elim (λ x. inl x) (λ x. inr (x.0, f x.0 x.1, x.2)) (h pending held)) once.failed;
   device = λ at. let x = once.device at in (x.0, (x.1.0, f x.1.0 x.1.1));

@@ -9,16 +9,18 @@ use Rattle.offset_runs.specs.Complete.{complete_rows}
 use Rattle.state_records.specs.States.{IsKey, StateParts}
 use Rattle.state_records.specs.declared.record.StateRecord.{StateRecord}
 use Rattle.state_records.specs.declared.record.StateRecord.TheVariants.{Snapshot, Update}
-use Rattle.share_coord.specs.Calls.{IsWritten, write_refusal}
-use Rattle.share_coord.specs.Planning.{GoesOn, IsPlanned, fresh_kept, left_by, record_of}
+use Rattle.share_coord.specs.Calls.{IsWritten, counted, write_refusal}
+use Rattle.share_coord.specs.Planning.{GoesOn, IsPlanned, LeadsTo, fresh_kept, left_by, record_of}
 use Rattle.share_coord.specs.Putting.{FitsFrame, IsOfKey, IsPut}
-use Rattle.share_coord.specs.Recorded.{IsWriteRecord}
-use Rattle.share_coord.specs.Stored.{Entries, Follows, kept_at, next_snapshot, renewed, renewed_kept, with_kept}
+use Rattle.share_coord.specs.Recorded.{IsWriteRecord, start_told}
+use Rattle.share_coord.specs.Stored.{Entries, kept_at, renewed, renewed_kept, with_kept}
+use Rattle.share_coord.specs.Unwritten.{AreKeptOf}
 use Rattle.share_coord.specs.declared.plan.Fresh.{Fresh}
 use Rattle.share_coord.specs.Parts.{KeptState}
-use Rattle.share_coord.proofs.Keys.{kept_based, some_is, some_none}
+use Rattle.share_coord.proofs.Keys.{clash, kept_based, some_is, some_none}
+use Rattle.share_coord.proofs.Leading.{kept_by, snapshot_leads, update_leads}
 use Rattle.share_coord.proofs.Sizes.{snapshot_fits, update_fits}
-use Rattle.share_coord.proofs.Spans.{laid_again}
+use Rattle.share_coord.proofs.Unwritten.{IsLow, counted_low, told_after}
 
 -- the record behind a checkpoint is one that there is
 pub fresh_of : (fresh : Option Fresh) (one : StateRecord) → record_of fresh ≡ Some one → (f : Fresh) × (fresh ≡ Some f) × (one ≡ f.written)
@@ -52,21 +54,14 @@ abbrev snapshot_record : KeyParts → ℕ → ℤ → ℤ → ℤ → ℕ → Li
 snapshot_record key n state leader start complete runs =
     Snapshot (record { key = key; snapshot = n; state_epoch = state; leader_epoch = leader; start = start; complete = Some complete; runs = runs })
 
-abbrev kept_by : ℤ → ℤ → ℤ → List Run → ℕ → ℕ → KeptState
-kept_by state leader start runs n m = record {
-  view = record { state_epoch = state; leader_epoch = leader; start = start; runs = runs };
-  snapshot = n;
-  updates = m;
-}
-
 -- what is behind a checkpoint, if one is tried
 abbrev pub IsFreshUpdate : KeyParts → ℤ → ℤ → ℤ → ℕ → List Run → Fresh → Type 0
-IsFreshUpdate key state leader start complete over f = (f.written ≡ Update (record {
+IsFreshUpdate key state leader told complete over f = (f.written ≡ Update (record {
   key = key;
   snapshot = 0;
   state_epoch = state;
   leader_epoch = leader;
-  start = start;
+  start = told;
   complete = Some complete;
   runs = over;
 }))
@@ -74,42 +69,44 @@ IsFreshUpdate key state leader start complete over f = (f.written ≡ Update (re
 
 module _ (key : KeyParts) (known : KeptState) (state leader start : ℤ) (runs over rows : List Run) (is_key : IsKey key)
     (are_written : AreWritten runs over) (are_laid : AreLaid (start_after known.view.start start) known.view.runs over rows)
-    (few_over : length over ≤ 1000000) (few : length rows ≤ 1000000) (complete : ℕ) (counted : complete ≡ complete_rows rows)
-    (plain : StateRecord) (kept : KeptState) (fresh : Option Fresh) (is_fresh : IfSome fresh (IsFreshUpdate key state leader start complete over)) where
-  view_start : ℤ
-  view_start = start_after known.view.start start
+    (few_over : length over ≤ 1000000) (few : length rows ≤ 1000000) (complete : ℕ) (complete_is : complete ≡ complete_rows rows)
+    (told : ℤ) (told_is : told ≡ start_told known start)
+    (plain : StateRecord) (kept : KeptState) (fresh : Option Fresh) (is_fresh : IfSome fresh (IsFreshUpdate key state leader told complete over)) where
+  abbrev Start : ℤ
+  Start = start_after known.view.start start
+
+  abbrev Count : ℕ
+  Count = (counted known Start).updates
 
   -- behind a checkpoint
-  behind_kept : (f : Fresh) → IsFreshUpdate key state leader start complete over f → kept.view ≡ record { state_epoch = state; leader_epoch = leader; start = start_after known.view.start start; runs = rows }
-      → fresh ≡ Some f → fresh_kept kept fresh ≡ kept_by state leader (start_after known.view.start start) rows 0 1
-  behind_kept f h view is =
-      ap (fresh_kept kept) is ∙ λ i. record { view = view i; snapshot = h.1 i; updates = h.2 i }
+  behind_kept : (n m : ℕ) (f : Fresh) → IsFreshUpdate key state leader told complete over f → kept ≡ kept_by state leader Start rows n m
+      → fresh ≡ Some f → fresh_kept kept fresh ≡ kept_by state leader Start rows 0 1
+  behind_kept n m f h shape is =
+      ap (fresh_kept kept) is ∙ (ap (λ (k : KeptState). fresh_kept k (Some f)) shape ∙ λ i. kept_by state leader Start rows (h.1 i) (h.2 i))
 
-  behind_follows : (view : kept.view ≡ record { state_epoch = state; leader_epoch = leader; start = start_after known.view.start start; runs = rows })
-      (old : Entries) → kept_at old key ≡ Some known → (one : StateRecord) → record_of fresh ≡ Some one
-      → Follows (renewed old) one (with_kept (renewed old) key (fresh_kept kept fresh))
-  behind_follows view old at one is =
+  behind_record_is : (f : Fresh) → IsFreshUpdate key state leader told complete over f → f.written ≡ update_record key 0 state leader (start_told known start) (complete_rows rows) over
+  behind_record_is f h = h.0 ∙ λ i. update_record key 0 state leader (told_is i) (complete_is i) over
+
+  -- none was made since, and nothing is raised
+  low_behind : IsLow (renewed_kept known) Start
+  low_behind = record { low = omega arith; same = refl; stays = λ never. absurd (clash (sym never)) }
+
+  behind_goes : (n m : ℕ) → kept ≡ kept_by state leader Start rows n m → (old : Entries) → kept_at old key ≡ Some known
+      → (one : StateRecord) → record_of fresh ≡ Some one → (base : Entries) → AreKeptOf base (renewed old)
+      → LeadsTo base one (with_kept (renewed old) key (fresh_kept kept fresh))
+  behind_goes n m shape old at one is base from =
       let f = fresh_of fresh one is in
-      let h = at_some (IsFreshUpdate key state leader start complete over) fresh f.0 f.1 is_fresh in
-      subst (λ (k : KeptState). Follows (renewed old) one (with_kept (renewed old) key k)) (sym (behind_kept f.0 h view f.1))
-      (subst (λ (r : StateRecord). Follows (renewed old) r (with_kept (renewed old) key (kept_by state leader (start_after known.view.start start) rows 0 1)))
-      (sym (f.2 ∙ h.0)) (record {
-        kept = renewed_kept known;
-        runs = rows;
-        known = kept_based true old key known at;
-        same = refl;
-        laid = are_laid;
-        few = few;
-        told = counted;
-        is = refl;
-      }))
+      let h = at_some (IsFreshUpdate key state leader told complete over) fresh f.0 f.1 is_fresh in
+      subst (λ (k : KeptState). LeadsTo base one (with_kept (renewed old) key k)) (sym (behind_kept n m f.0 h shape f.1))
+      (subst (λ (r : StateRecord). LeadsTo base r (with_kept (renewed old) key (kept_by state leader Start rows 0 1)))
+      (sym (f.2 ∙ behind_record_is f.0 h)) (update_leads base (renewed old) key (renewed_kept known) state leader start over rows (kept_based true old key known at) are_laid few from low_behind))
 
-  behind_written : (view : kept.view ≡ record { state_epoch = state; leader_epoch = leader; start = start_after known.view.start start; runs = rows })
-      (old : Entries) → kept_at old key ≡ Some known → write_refusal (kept_at old key) state leader start runs ≡ None → (one : StateRecord) → record_of fresh ≡ Some one
+  behind_written : (n m : ℕ) → kept ≡ kept_by state leader Start rows n m → (old : Entries) → kept_at old key ≡ Some known
+      → write_refusal (kept_at old key) state leader start runs ≡ None → (one : StateRecord) → record_of fresh ≡ Some one
       → IsWritten old key state leader start runs (with_kept (renewed old) key (fresh_kept kept fresh))
-  behind_written view old at none one is =
+  behind_written n m shape old at none one is =
       let f = fresh_of fresh one is in
-      let h = at_some (IsFreshUpdate key state leader start complete over) fresh f.0 f.1 is_fresh in
+      let h = at_some (IsFreshUpdate key state leader told complete over) fresh f.0 f.1 is_fresh in
       record {
         granted = none;
         checkpointed = true;
@@ -121,13 +118,13 @@ module _ (key : KeyParts) (known : KeptState) (state leader start : ℤ) (runs o
         are_laid = are_laid;
         few_written = few_over;
         few = few;
-        is = ap (with_kept (renewed old) key) (behind_kept f.0 h view f.1);
+        is = ap (with_kept (renewed old) key) (behind_kept n m f.0 h shape f.1);
       }
 
   behind_record : (old : Entries) → kept_at old key ≡ Some known → (one : StateRecord) → record_of fresh ≡ Some one → IsWriteRecord old key state leader start runs one
   behind_record old at one is =
       let f = fresh_of fresh one is in
-      let h = at_some (IsFreshUpdate key state leader start complete over) fresh f.0 f.1 is_fresh in
+      let h = at_some (IsFreshUpdate key state leader told complete over) fresh f.0 f.1 is_fresh in
       record {
         checkpointed = true;
         kept = known;
@@ -136,44 +133,36 @@ module _ (key : KeyParts) (known : KeptState) (state leader start : ℤ) (runs o
         known = at;
         are_written = are_written;
         are_laid = are_laid;
-        is = f.2 ∙ (h.0 ∙ ap (λ (n : ℕ). update_record key 0 state leader start n over) counted);
+        is = f.2 ∙ behind_record_is f.0 h;
       }
 
   behind_fits : IfSome (record_of fresh) FitsFrame
-  behind_fits = fit_fresh fresh (if_some (IsFreshUpdate key state leader start complete over) (λ f. FitsFrame f.written) fresh
+  behind_fits = fit_fresh fresh (if_some (IsFreshUpdate key state leader told complete over) (λ f. FitsFrame f.written) fresh
       (λ f h. fits_update f.written _ h.0 is_key few_over) is_fresh)
 
   -- stored as an update
-  module _ (low : known.updates < 500) (plain_is : plain ≡ update_record key known.snapshot state leader start (complete_rows rows) over)
-      (kept_is : kept ≡ kept_by state leader (start_after known.view.start start) rows known.snapshot (known.updates + 1)) where
-    view_is : kept.view ≡ record { state_epoch = state; leader_epoch = leader; start = start_after known.view.start start; runs = rows }
-    view_is = ap (λ (k : KeptState). k.view) kept_is
-
-    low_test : nat_lt known.updates 500 ≡ true
+  module _ (low : Count < 500) (plain_is : plain ≡ update_record key known.snapshot state leader told (complete_rows rows) over)
+      (kept_is : kept ≡ kept_by state leader Start rows known.snapshot (known.updates + 1)) where
+    low_test : nat_lt Count 500 ≡ true
     low_test = grind (arith, nat_tests)
 
-    update_follows : (old : Entries) → kept_at old key ≡ Some known → Follows old plain (with_kept old key kept)
-    update_follows old at =
-        subst (λ (k : KeptState). Follows old plain (with_kept old key k)) (sym kept_is)
-        (subst (λ (r : StateRecord). Follows old r (with_kept old key (kept_by state leader (start_after known.view.start start) rows known.snapshot (known.updates + 1)))) (sym plain_is)
-        (record {
-          kept = known;
-          runs = rows;
-          known = at;
-          same = refl;
-          laid = are_laid;
-          few = few;
-          told = refl;
-          is = ap (λ (n : ℕ). with_kept old key (kept_by state leader (start_after known.view.start start) rows known.snapshot n)) (omega (arith, low));
-        }))
+    -- the updates that count are those that there are
+    count_is : Count ≡ known.updates
+    count_is = (counted_low known Start low).same
+
+    told_plain : plain ≡ update_record key known.snapshot state leader (start_told known start) (complete_rows rows) over
+    told_plain = plain_is ∙ ap (λ (z : ℤ). update_record key known.snapshot state leader z (complete_rows rows) over) told_is
 
     update_goes : (old : Entries) → kept_at old key ≡ Some known → GoesOn old plain (record_of fresh) (left_by old key kept fresh)
-    update_goes old at false one is = subst (λ (r : StateRecord). Follows old r (with_kept old key kept)) (sym is) (update_follows old at)
-    update_goes old at true one is = behind_follows view_is old at one is
+    update_goes old at false one is base from =
+        subst (λ (k : KeptState). LeadsTo base one (with_kept old key k)) (sym kept_is)
+        (subst (λ (r : StateRecord). LeadsTo base r (with_kept old key (kept_by state leader Start rows known.snapshot (known.updates + 1)))) (sym (is ∙ told_plain))
+        (update_leads base old key known state leader start over rows at are_laid few from (counted_low known Start low)))
+    update_goes old at true one is base from = behind_goes known.snapshot (known.updates + 1) kept_is old at one is base from
 
     update_written : (old : Entries) → kept_at old key ≡ Some known → write_refusal (kept_at old key) state leader start runs ≡ None
         → (c : Bool) (one : StateRecord) → IsPut plain (record_of fresh) c one → IsWritten old key state leader start runs (left_by old key kept fresh c)
-    update_written old at none true one is = behind_written view_is old at none one is
+    update_written old at none true one is = behind_written known.snapshot (known.updates + 1) kept_is old at none one is
     update_written old at none false one is = record {
       granted = none;
       checkpointed = false;
@@ -185,8 +174,9 @@ module _ (key : KeyParts) (known : KeptState) (state leader start : ℤ) (runs o
       are_laid = are_laid;
       few_written = few_over;
       few = few;
-      is = ap (with_kept old key) (kept_is ∙ ap (λ (b : Bool). kept_by state leader (start_after known.view.start start) rows
-          (if b then known.snapshot else known.snapshot + 1) (if b then known.updates + 1 else 0)) (sym low_test));
+      is = ap (with_kept old key) (kept_is ∙ (ap (λ (n : ℕ). kept_by state leader Start rows known.snapshot (n + 1)) (sym count_is)
+          ∙ ap (λ (b : Bool). kept_by state leader Start rows
+          (if b then known.snapshot else known.snapshot + 1) (if b then Count + 1 else 0)) (sym low_test)));
     }
 
     update_records : (old : Entries) → kept_at old key ≡ Some known → (c : Bool) (one : StateRecord) → IsPut plain (record_of fresh) c one
@@ -200,8 +190,8 @@ module _ (key : KeyParts) (known : KeptState) (state leader start : ℤ) (runs o
       known = at;
       are_written = are_written;
       are_laid = are_laid;
-      is = is ∙ (plain_is ∙ ap (λ (b : Bool). if b then update_record key known.snapshot state leader start (complete_rows rows) over
-          else snapshot_record key (known.snapshot + 1) state leader (start_after known.view.start start) (complete_rows rows) rows) (sym low_test));
+      is = is ∙ (told_plain ∙ ap (λ (b : Bool). if b then update_record key known.snapshot state leader (start_told known start) (complete_rows rows) over
+          else snapshot_record key (known.snapshot + 1) state leader (start_after known.view.start (start_told known start)) (complete_rows rows) rows) (sym low_test));
     }
 
     pub planned_update : IsPlanned key known state leader start runs plain kept fresh
@@ -213,34 +203,21 @@ module _ (key : KeyParts) (known : KeptState) (state leader start : ℤ) (runs o
     }
 
   -- stored as a snapshot
-  module _ (high : 500 ≤ known.updates) (plain_is : plain ≡ snapshot_record key (known.snapshot + 1) state leader (start_after known.view.start start) (complete_rows rows) rows)
-      (kept_is : kept ≡ kept_by state leader (start_after known.view.start start) rows (known.snapshot + 1) 0) where
-    view_is_too : kept.view ≡ record { state_epoch = state; leader_epoch = leader; start = start_after known.view.start start; runs = rows }
-    view_is_too = ap (λ (k : KeptState). k.view) kept_is
-
-    high_test : nat_lt known.updates 500 ≡ false
+  module _ (high : 500 ≤ Count) (plain_is : plain ≡ snapshot_record key (known.snapshot + 1) state leader (start_after known.view.start start) (complete_rows rows) rows)
+      (kept_is : kept ≡ kept_by state leader Start rows (known.snapshot + 1) 0) where
+    high_test : nat_lt Count 500 ≡ false
     high_test = grind (arith, nat_tests)
 
-    snapshot_follows : (old : Entries) → kept_at old key ≡ Some known → Follows old plain (with_kept old key kept)
-    snapshot_follows old at =
-        subst (λ (k : KeptState). Follows old plain (with_kept old key k)) (sym kept_is)
-        (subst (λ (r : StateRecord). Follows old r (with_kept old key (kept_by state leader (start_after known.view.start start) rows (known.snapshot + 1) 0))) (sym plain_is)
-        (record {
-          runs = rows;
-          next = sym (ap next_snapshot at);
-          laid = laid_again (start_after known.view.start start) known.view.runs over rows are_laid;
-          few = few;
-          told = refl;
-          is = refl;
-        }))
-
     snapshot_goes : (old : Entries) → kept_at old key ≡ Some known → GoesOn old plain (record_of fresh) (left_by old key kept fresh)
-    snapshot_goes old at false one is = subst (λ (r : StateRecord). Follows old r (with_kept old key kept)) (sym is) (snapshot_follows old at)
-    snapshot_goes old at true one is = behind_follows view_is_too old at one is
+    snapshot_goes old at false one is base from =
+        subst (λ (k : KeptState). LeadsTo base one (with_kept old key k)) (sym kept_is)
+        (subst (λ (r : StateRecord). LeadsTo base r (with_kept old key (kept_by state leader Start rows (known.snapshot + 1) 0))) (sym (is ∙ plain_is))
+        (snapshot_leads base old key known state leader start over rows at are_laid few from))
+    snapshot_goes old at true one is base from = behind_goes (known.snapshot + 1) 0 kept_is old at one is base from
 
     snapshot_written : (old : Entries) → kept_at old key ≡ Some known → write_refusal (kept_at old key) state leader start runs ≡ None
         → (c : Bool) (one : StateRecord) → IsPut plain (record_of fresh) c one → IsWritten old key state leader start runs (left_by old key kept fresh c)
-    snapshot_written old at none true one is = behind_written view_is_too old at none one is
+    snapshot_written old at none true one is = behind_written (known.snapshot + 1) 0 kept_is old at none one is
     snapshot_written old at none false one is = record {
       granted = none;
       checkpointed = false;
@@ -252,8 +229,8 @@ module _ (key : KeyParts) (known : KeptState) (state leader start : ℤ) (runs o
       are_laid = are_laid;
       few_written = few_over;
       few = few;
-      is = ap (with_kept old key) (kept_is ∙ ap (λ (b : Bool). kept_by state leader (start_after known.view.start start) rows
-          (if b then known.snapshot else known.snapshot + 1) (if b then known.updates + 1 else 0)) (sym high_test));
+      is = ap (with_kept old key) (kept_is ∙ ap (λ (b : Bool). kept_by state leader Start rows
+          (if b then known.snapshot else known.snapshot + 1) (if b then Count + 1 else 0)) (sym high_test));
     }
 
     snapshot_records : (old : Entries) → kept_at old key ≡ Some known → (c : Bool) (one : StateRecord) → IsPut plain (record_of fresh) c one
@@ -267,8 +244,9 @@ module _ (key : KeyParts) (known : KeptState) (state leader start : ℤ) (runs o
       known = at;
       are_written = are_written;
       are_laid = are_laid;
-      is = is ∙ (plain_is ∙ ap (λ (b : Bool). if b then update_record key known.snapshot state leader start (complete_rows rows) over
-          else snapshot_record key (known.snapshot + 1) state leader (start_after known.view.start start) (complete_rows rows) rows) (sym high_test));
+      is = is ∙ (plain_is ∙ (ap (λ (z : ℤ). snapshot_record key (known.snapshot + 1) state leader z (complete_rows rows) rows) (sym (told_after known start))
+          ∙ ap (λ (b : Bool). if b then update_record key known.snapshot state leader (start_told known start) (complete_rows rows) over
+          else snapshot_record key (known.snapshot + 1) state leader (start_after known.view.start (start_told known start)) (complete_rows rows) rows) (sym high_test)));
     }
 
     pub planned_snapshot : IsPlanned key known state leader start runs plain kept fresh

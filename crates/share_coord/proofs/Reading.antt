@@ -15,7 +15,9 @@ use Rattle.share_coord.specs.declared.walk.Walk.TheVariants.{First}
 use Rattle.share_model.specs.Keys.{KeyParts}
 use Rattle.share_coord.proofs.Keys.{next_few, some_is, some_none}
 use Rattle.share_coord.proofs.Taken.{push_before}
+use Rattle.share_coord.proofs.Unwritten.{next_same}
 use Rattle.share_coord.proofs.Walking.{front_taken, records_few}
+use Rattle.share_coord.specs.Unwritten.{AreKeptOf}
 
 follows_once : (old : Entries) (r : StateRecord) (m n : Entries) → Follows old r m → Follows old r n → m ≡ n
 follows_once old (Snapshot state) m n p q =
@@ -45,10 +47,11 @@ pub taken_once : (frames : List (List ℕ)) (m n : Entries) → AreTaken frames 
 taken_once frames m n p q = accepted_once [] (records_from First frames) m n p q
 
 -- a key has fewer snapshots than there are frames
-pub next_held : (frames : List (List ℕ)) (entries : Entries) (key : KeyParts) → AreTaken frames entries → length frames < 2 ^ 63
+pub next_held : (frames : List (List ℕ)) (entries written : Entries) (key : KeyParts) → AreTaken frames written → AreKeptOf written entries → length frames < 2 ^ 63
     → next_snapshot (kept_at entries key) < 2 ^ 64
-next_held frames entries key taken few =
-    let le = records_few First frames in next_few (records_from First frames) entries key taken (omega (arith, le, few))
+next_held frames entries written key taken kept few =
+    let le = records_few First frames in
+    subst (λ (n : ℕ). n < 2 ^ 64) (next_same written entries key kept) (next_few (records_from First frames) written key taken (omega (arith, le, few)))
 
 -- a frame that doesn't go on from those before it
 pub next_refused : (frames : List (List ℕ)) (frame : List ℕ) (walk : Walk) (entries : Entries) → walk ≡ walk_of First frames → AreTaken frames entries

@@ -6,13 +6,15 @@ use Rattle.state_records.specs.States.{IsKey}
 use Rattle.state_records.specs.declared.record.StateRecord.{StateRecord}
 use Rattle.state_records.specs.declared.record.StateRecord.TheVariants.{Removal}
 use Rattle.share_coord.specs.Calls.{IsForgotten}
-use Rattle.share_coord.specs.Planning.{GoesOn, record_of}
+use Rattle.share_coord.specs.Planning.{GoesOn, LeadsTo, record_of}
 use Rattle.share_coord.specs.Putting.{FitFrames, FitsFrame, IsOfKey, IsPut}
-use Rattle.share_coord.specs.Stored.{Entries, Follows, based, kept_at, without_key}
+use Rattle.share_coord.specs.Stored.{Entries, based, based_kept, kept_at, without_key}
+use Rattle.share_coord.specs.Unwritten.{IsKeptOf}
 use Rattle.share_coord.specs.declared.plan.Fresh.{Fresh}
-use Rattle.share_coord.proofs.Keys.{forgets, removes}
+use Rattle.share_coord.proofs.Keys.{forgets, kept_based, known_by}
 use Rattle.share_coord.proofs.Planning.{at_some, fit_fresh, fresh_of, if_some}
 use Rattle.share_coord.proofs.Sizes.{removal_fits}
+use Rattle.share_coord.proofs.Unwritten.{alike_known, alike_without}
 
 abbrev pub IsFreshRemoval : KeyParts → Fresh → Type 0
 IsFreshRemoval key f = f.written ≡ Removal key
@@ -34,8 +36,14 @@ module _ (key : KeyParts) (fresh : Option Fresh) (is_fresh : IfSome fresh (IsFre
 
 pub removals_go : (old : Entries) (key : KeyParts) (fresh : Option Fresh) → IsSome (kept_at old key) → IfSome fresh (IsFreshRemoval key)
     → GoesOn old (Removal key) (record_of fresh) (λ b. without_key (based b old) key)
-removals_go old key fresh there is_fresh c one is =
-    subst (λ (r : StateRecord). Follows (based c old) r (without_key (based c old) key)) (sym (removal_is key fresh is_fresh c one is)) (removes c old key there)
+removals_go old key fresh there is_fresh c one is base from =
+    let known = known_by (kept_at old key) there in
+    let f = alike_known IsKeptOf base (based c old) key (based_kept c known.0) from (kept_based c old key known.0 known.1) in
+    subst (λ (r : StateRecord). LeadsTo base r (without_key (based c old) key)) (sym (removal_is key fresh is_fresh c one is)) (
+      without_key base key,
+      record { kept = f.0; known = f.1; is = refl },
+      alike_without IsKeptOf base (based c old) key from,
+    )
 
 pub removals_left : (old : Entries) (key : KeyParts) (fresh : Option Fresh) → IsSome (kept_at old key) → (c : Bool) (one : StateRecord)
     → IsPut (Removal key) (record_of fresh) c one → IsForgotten old key (without_key (based c old) key)

@@ -1,5 +1,5 @@
--- The snapshots of all keys stand for the same states, each with its first snapshot and no update.
-use Rattle.std.proofs.Common.{◌≡◌, refl, sym, ap, ◌∙◌, subst, arith, append_assoc, append-nil, ℕ, List, [], ◌∷◌, ◌++◌, Some, None, Bool, true, false, cond}
+-- The snapshots of all keys stand for the states that are kept, each with its first snapshot and no update.
+use Rattle.std.proofs.Common.{◌≡◌, ◌≤◌, refl, sym, ap, ◌∙◌, subst, arith, append_assoc, append-nil, ℕ, pos, List, [], ◌∷◌, ◌++◌, length, nat_lt, Some, None, Bool, true, false, cond}
 use Rattle.std.specs.declared.cmp.Ordering.{Ordering}
 use Rattle.std.specs.declared.cmp.Ordering.TheVariants.{Less, Equal, Greater}
 use Rattle.std.specs.Ordering.{is_eq, match_ordering, ordering_reverse}
@@ -7,20 +7,28 @@ use Rattle.std.specs.List.{AllByRecursion}
 use Rattle.std.specs.List.Sorted.{IsStrictlySortedBy}
 use Rattle.std.specs.Map.{keys_of}
 use Rattle.share_model.specs.Keys.{KeyParts, key_cmp}
-use Rattle.share_model.specs.ShareStates.{AreLaid, start_after}
+use Rattle.offset_runs.specs.Parts.{from_on, run_from}
+use Rattle.offset_runs.proofs.Cuts.{from_on-canonical, from_on-row_at}
+use Rattle.share_model.specs.ForeignRules.{size_of}
+use Rattle.share_model.specs.ShareStates.{AreLaid, ShareState, start_after}
+use Rattle.share_model.specs.declared.run.Run.{Run}
 use Rattle.state_records.specs.Spelling.{IsRecord, record_bytes}
-use Rattle.state_records.specs.States.{IsKey}
+use Rattle.state_records.specs.States.{IsKey, IsStart}
 use Rattle.state_records.specs.declared.record.StateRecord.{StateRecord}
 use Rattle.state_records.specs.declared.record.StateRecord.TheVariants.{Snapshot, Update, Removal, Head, Seal}
 use Rattle.state_records.proofs.Whole.{record_again}
 use Rattle.checkpoint_journal.specs.Checkpoints.{AreSnapshots}
 use Rattle.checkpoint_journal.specs.Generations.{mark_read}
-use Rattle.share_coord.specs.Stored.{Entries, Accepts, AreAccepted, Follows, kept_at, next_snapshot, renewed, renewed_kept, snapshot_frames, snapshot_record, with_kept, without_key}
+use Rattle.share_coord.specs.Stored.{Entries, Accepts, AreAccepted, Follows, kept_at, next_snapshot, settled, settled_kept, snapshot_frames, snapshot_record, with_kept, without_key}
+use Rattle.share_coord.specs.Raising.{raised, starts_below}
+use Rattle.share_coord.specs.Unwritten.{AreKeptOf, IsKeptOf}
 use Rattle.share_coord.specs.Views.{IsKeptState}
 use Rattle.share_coord.specs.Parts.{KeptState}
 use Rattle.share_coord.proofs.Keys.{all_at, all_with, all_without, keys_total}
-use Rattle.share_coord.proofs.Spans.{complete_low, laid_again, laid_stored}
+use Rattle.share_coord.proofs.Raising.{raised_below, raised_not, with_start}
+use Rattle.share_coord.proofs.Spans.{complete_low, cut_laid, laid_again, laid_stored}
 use Rattle.share_coord.proofs.Taken.{start_fit}
+use Rattle.share_coord.proofs.Unwritten.{raised_view, unraised_view}
 
 -- ---- keys in order
 
@@ -58,13 +66,13 @@ at_end (e ∷ es) key v h =
     ap (λ (r : Ordering). match_ordering r ((key, v) ∷ e ∷ es) ((e.0, v) ∷ es) (e ∷ with_kept es key v)) (above e.0 key h.0)
     ∙ ap (λ (l : Entries). e ∷ l) (at_end es key v h.1)
 
-below_renewed : (es : Entries) (key : KeyParts) → AllBelow es key → AllBelow (renewed es) key
-below_renewed [] key h = tt
-below_renewed (e ∷ es) key h = (h.0, below_renewed es key h.1)
+below_settled : (es : Entries) (key : KeyParts) → AllBelow es key → AllBelow (settled es) key
+below_settled [] key h = tt
+below_settled (e ∷ es) key h = (h.0, below_settled es key h.1)
 
-renewed_push : (es : Entries) (e : KeyParts × KeptState) → renewed (es ++ e ∷ []) ≡ renewed es ++ (e.0, renewed_kept e.1) ∷ []
-renewed_push [] e = refl
-renewed_push (x ∷ xs) e = ap (λ (l : Entries). (x.0, renewed_kept x.1) ∷ l) (renewed_push xs e)
+settled_push : (es : Entries) (e : KeyParts × KeptState) → settled (es ++ e ∷ []) ≡ settled es ++ (e.0, settled_kept e.1) ∷ []
+settled_push [] e = refl
+settled_push (x ∷ xs) e = ap (λ (l : Entries). (x.0, settled_kept x.1) ∷ l) (settled_push xs e)
 
 -- ---- what is kept can be stored
 
@@ -126,9 +134,62 @@ fit_step old (Removal key) new is f h = subst AreFit (sym f.is) (keys_without ol
 fit_step old (Head generation) new is f h = absurd f
 fit_step old Seal new is f h = absurd f
 
+pub fit_frame : (old : Entries) (frame : List ℕ) (new : Entries) → Accepts old frame new → AreFit old → AreFit new
+fit_frame old frame new a h = fit_step old a.written new a.valid a.follows h
+
 pub fit_all : (frames : List (List ℕ)) (old new : Entries) → AreAccepted old frames new → AreFit old → AreFit new
 fit_all [] old new is h = subst AreFit (sym is) h
 fit_all (f ∷ fs) old new a h = fit_all fs a.0 new a.2 (fit_step old a.1.written a.0 a.1.valid a.1.follows h)
+
+same_fit : (w k : KeptState) → k.view ≡ w.view → IsFit w → IsFit k
+same_fit w k is fit = record {
+  state = subst IsKeptState (sym is) fit.state;
+  laid = subst (λ (v : ShareState). AreLaid v.start [] v.runs v.runs) (sym is) fit.laid;
+}
+
+fewer : (n : ℕ) (runs : List Run) → length (from_on runs n) ≤ length runs
+fewer n [] = omega arith
+fewer n (x ∷ xs) = by (nat_lt x.last n) (fewer n xs) where
+  by : (b : Bool) → length (from_on xs n) ≤ length xs → length (cond b (from_on xs n) (run_from x n ∷ xs)) ≤ length (x ∷ xs)
+  by true le = omega (arith, le)
+  by false le = omega arith
+
+-- rows that were cut
+raised_fit : (k w : KeptState) (n : ℕ) → k.view ≡ with_start w.view n (from_on w.view.runs n) → IsStart k.view.start → IsFit w → IsFit k
+raised_fit k w n is start fit =
+    let canonical = fit.state.runs.0 in
+    let laid = cut_laid (pos n) w.view.runs (from_on w.view.runs n) (from_on-canonical w.view.runs n canonical) (λ o. from_on-row_at w.view.runs n o canonical) in
+    let few_were = fit.state.few in
+    let fewer_are = fewer n w.view.runs in
+    let start_is : IsStart (pos n) = subst (λ (v : ShareState). IsStart v.start) is start in
+    let state : IsKeptState (with_start w.view n (from_on w.view.runs n)) = record {
+      state_epoch = fit.state.state_epoch;
+      leader_epoch = fit.state.leader_epoch;
+      start = start_is;
+      runs = laid_stored (pos n) [] w.view.runs (from_on w.view.runs n) laid (tt, tt) fit.state.runs;
+      few = omega (arith, few_were, fewer_are);
+    } in
+    record {
+      state = subst IsKeptState (sym is) state;
+      laid = subst (λ (v : ShareState). AreLaid v.start [] v.runs v.runs) (sym is) (laid_again (pos n) [] w.view.runs (from_on w.view.runs n) laid);
+    }
+
+-- what is kept can be stored, as what is written can
+view_fit : (b : Bool) (w k : KeptState) → k.raised ≡ b → IsKeptOf w k → IsFit w → IsFit k
+view_fit true w k since h fit = by (starts_below w.view.start (size_of k.view.start)) refl (raised_view w k h.view since)
+  where
+    by : (c : Bool) → starts_below w.view.start (size_of k.view.start) ≡ c → k.view ≡ raised (size_of k.view.start) w.view → IsFit k
+    by true low is = raised_fit k w (size_of k.view.start) (is ∙ raised_below w.view (size_of k.view.start) low) (h.since since).0 fit
+    by false high is = same_fit w k (is ∙ raised_not w.view (size_of k.view.start) high) fit
+view_fit false w k never h fit = same_fit w k (unraised_view w k h.view never) fit
+
+pub kept_fit : (ws ks : Entries) → AreKeptOf ws ks → AreFit ws → AreFit ks
+kept_fit [] [] h fit = (tt, tt)
+kept_fit [] (y ∷ ys) h fit = absurd h
+kept_fit (x ∷ xs) [] h fit = absurd h
+kept_fit (x ∷ xs) (y ∷ ys) h fit =
+    let rest = kept_fit xs ys h.2 (fit.0.1, fit.1.1) in
+    ((subst IsKey h.0 fit.0.0, rest.0), (view_fit y.1.raised x.1 y.1 refl h.1 fit.1.0, rest.1))
 
 -- ---- the snapshots
 
@@ -144,37 +205,37 @@ valid_snapshot e key fit = record {
   few = let few = fit.state.few in omega (arith, few);
 }
 
-one_renewed : (es : Entries) (e : KeyParts × KeptState) → AllBelow es e.0 → IsKey e.0 → IsFit e.1
-    → Accepts (renewed es) (record_bytes (snapshot_record e.0 e.1.view)) (renewed (es ++ e ∷ []))
-one_renewed es e below key fit =
-    let under = below_renewed es e.0 below in
+one_settled : (es : Entries) (e : KeyParts × KeptState) → AllBelow es e.0 → IsKey e.0 → IsFit e.1
+    → Accepts (settled es) (record_bytes (snapshot_record e.0 e.1.view)) (settled (es ++ e ∷ []))
+one_settled es e below key fit =
+    let under = below_settled es e.0 below in
     record {
       written = snapshot_record e.0 e.1.view;
       valid = valid_snapshot e key fit;
       bytes = refl;
       follows = record {
         runs = e.1.view.runs;
-        next = sym (ap next_snapshot (absent (renewed es) e.0 under));
+        next = sym (ap next_snapshot (absent (settled es) e.0 under));
         laid = fit.laid;
         few = fit.state.few;
         told = refl;
-        is = renewed_push es e ∙ sym (at_end (renewed es) e.0 (renewed_kept e.1) under);
+        is = settled_push es e ∙ sym (at_end (settled es) e.0 (settled_kept e.1) under);
       };
     }
 
 renews_from : (ds es : Entries) → Apart ds es → IsStrictlySortedBy key_cmp (keys_of es) → AreFit es
-    → AreAccepted (renewed ds) (snapshot_frames es) (renewed (ds ++ es))
+    → AreAccepted (settled ds) (snapshot_frames es) (settled (ds ++ es))
 unfolding IsStrictlySortedBy
-renews_from ds [] apart sorted fit = ap renewed (append-nil ds)
+renews_from ds [] apart sorted fit = ap settled (append-nil ds)
 renews_from ds (e ∷ es) apart sorted fit = (
-  renewed (ds ++ e ∷ []),
-  one_renewed ds e apart.0 fit.0.0 fit.1.0,
-  subst (λ (l : Entries). AreAccepted (renewed (ds ++ e ∷ [])) (snapshot_frames es) (renewed l)) (append_assoc ds (e ∷ []) es)
+  settled (ds ++ e ∷ []),
+  one_settled ds e apart.0 fit.0.0 fit.1.0,
+  subst (λ (l : Entries). AreAccepted (settled (ds ++ e ∷ [])) (snapshot_frames es) (settled l)) (append_assoc ds (e ∷ []) es)
       (renews_from (ds ++ e ∷ []) es (apart_push ds e es apart.1 sorted.0) sorted.1 (fit.0.1, fit.1.1)),
 )
 
 -- the snapshots of all keys stand for them
-pub renews : (es : Entries) → IsStrictlySortedBy key_cmp (keys_of es) → AreFit es → AreAccepted [] (snapshot_frames es) (renewed es)
+pub renews : (es : Entries) → IsStrictlySortedBy key_cmp (keys_of es) → AreFit es → AreAccepted [] (snapshot_frames es) (settled es)
 renews es sorted fit = renews_from [] es (apart_none es) sorted fit
 
 pub are_snapshots : (es : Entries) → AreFit es → AreSnapshots (snapshot_frames es)

@@ -13,6 +13,7 @@ use Rattle.share_coord.specs.Stored.{AreAccepted, AreTaken, Entries, IsRefused, 
 use Rattle.share_coord.specs.declared.walk.Walk.{Walk}
 use Rattle.share_coord.specs.declared.walk.Walk.TheVariants.{First}
 use Rattle.share_coord.proofs.Held.{holds_by, none_lands}
+use Rattle.share_coord.proofs.Unraised.{taken_kept}
 use Rattle.share_coord.proofs.Reading.{next_refused}
 use Rattle.share_coord.proofs.Walking.{next_taken, walk_more}
 
@@ -117,4 +118,5 @@ refused_at handed place places is = record {
 pub replayed : {D : Type 0} (seen : D → DiskView) (journal : JournalParts D) (handed : Handed) (entries : Entries) (room : ℕ) → Keeps seen journal (frames_in handed) None None
     → AreTaken (frames_in handed) entries → length handed < 2 ^ 63 → Holds seen (record { journal = journal; entries = entries; room = room }) None
 replayed seen journal handed entries room keeps taken few =
-    holds_by seen journal entries room (frames_in handed) None None None keeps taken (omega (arith, few, in_length handed)) tt (none_lands entries)
+    holds_by seen journal entries entries room (frames_in handed) None None None keeps taken (taken_kept (frames_in handed) entries taken)
+    (omega (arith, few, in_length handed)) tt (none_lands entries)

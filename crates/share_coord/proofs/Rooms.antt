@@ -1,5 +1,5 @@
 -- The memory of the rows of a table.
-use Rattle.std.proofs.Common.{◌≡◌, ◌≤◌, sym, ap, ◌∙◌, subst, arith, ℕ, List, [], ◌∷◌, Option, Some, None, Bool, true, false, cond}
+use Rattle.std.proofs.Common.{◌≡◌, ◌≤◌, refl, sym, ap, ◌∙◌, subst, arith, ℕ, List, [], ◌∷◌, Option, Some, None, Bool, true, false, cond, map}
 use Rattle.std.specs.declared.cmp.Ordering.{Ordering}
 use Rattle.std.specs.declared.cmp.Ordering.TheVariants.{Less, Equal, Greater}
 use Rattle.std.specs.Ordering.{match_ordering}
@@ -8,6 +8,8 @@ use Rattle.std.specs.Map.{lookup, remove_entry}
 use Rattle.std.specs.Map.Calls.{RetainsPairs}
 use Rattle.std.specs.Option.{IfSome}
 use Rattle.share_model.specs.Keys.{KeyParts, key_cmp}
+use Rattle.share_coord.specs.Parts.{KeptState}
+use Rattle.share_coord.specs.Stored.{Entries}
 use Rattle.share_coord.specs.Tables.{AreRoomy, entries_in, shown}
 use Rattle.share_coord.specs.declared.view.Kept.{Kept}
 use Rattle.share_coord.proofs.Keys.{some_is, some_none}
@@ -60,21 +62,27 @@ module _ (room : ℕ) where
   roomy_old es key None is h = tt
   roomy_old es key (Some kept) is h = roomy_at es key kept h (sym is)
 
--- each key was visited, and its rows have as much memory as they had
-module _ {F : Type 0} (T : F → KeyParts → Kept → Bool → Kept → F → Type 0) (f : F)
-    (visits : (k : KeyParts) (v : Kept) (b : Bool) (w : Kept) (g : F) → T f k v b w g → (b ≡ true) × (shown w ≡ shown v) × (v.view.room ≤ w.view.room) × (g ≡ f)) where
-  pub visited_shown : (es new : Table) → RetainsPairs T f es new → entries_in new ≡ entries_in es
-  visited_shown [] new r = ap entries_in r
-  visited_shown (e ∷ es) new r =
-      let a = visits e.0 e.1 r.0 r.1 r.2 r.4 in
-      let rest = visited_shown es r.3 (subst (λ u. RetainsPairs T u es r.3) a.3 r.5) in
-      ap entries_in (r.6 ∙ ap (λ (b : Bool). cond b ((e.0, r.1) ∷ r.3) r.3) a.0) ∙ (λ i. (e.0, a.1 i) ∷ rest i)
+-- each key was visited, this was made of what is kept of it, and its rows have as much memory as they had
+module _ {F : Type 0} (T : F → KeyParts → Kept → Bool → Kept → F → Type 0) (I : F → Type 0) (step : KeptState → KeptState)
+    (visits : (f : F) (k : KeyParts) (v : Kept) (b : Bool) (w : Kept) (g : F) → I f → T f k v b w g
+    → (b ≡ true) × (shown w ≡ step (shown v)) × (v.view.room ≤ w.view.room) × I g) where
+  pub visited_all : (f : F) (es new : Table) → I f → RetainsPairs T f es new → entries_in new ≡ map (λ e. (e.0, step e.1)) (entries_in es)
+  visited_all f [] new i r = ap entries_in r
+  visited_all f (e ∷ es) new i r =
+      let a = visits f e.0 e.1 r.0 r.1 r.2 i r.4 in
+      let rest = visited_all r.2 es r.3 a.3 r.5 in
+      ap entries_in (r.6 ∙ ap (λ (b : Bool). cond b ((e.0, r.1) ∷ r.3) r.3) a.0) ∙ (λ j. (e.0, a.1 j) ∷ rest j)
 
-  pub visited_roomy : (room : ℕ) (es new : Table) → RetainsPairs T f es new → AreRoomy room es → AreRoomy room new
-  visited_roomy room [] new r all = subst (AreRoomy room) (sym r) tt
-  visited_roomy room (e ∷ es) new r all =
-      let a = visits e.0 e.1 r.0 r.1 r.2 r.4 in
+  pub visited_roomy : (f : F) (room : ℕ) (es new : Table) → I f → RetainsPairs T f es new → AreRoomy room es → AreRoomy room new
+  visited_roomy f room [] new i r all = subst (AreRoomy room) (sym r) tt
+  visited_roomy f room (e ∷ es) new i r all =
+      let a = visits f e.0 e.1 r.0 r.1 r.2 i r.4 in
       let le = a.2 in
       let was = all.0 in
-      let rest = visited_roomy room es r.3 (subst (λ u. RetainsPairs T u es r.3) a.3 r.5) all.1 in
+      let rest = visited_roomy r.2 room es r.3 a.3 r.5 all.1 in
       subst (AreRoomy room) (sym (r.6 ∙ ap (λ (b : Bool). cond b ((e.0, r.1) ∷ r.3) r.3) a.0)) (omega (arith, le, was), rest)
+
+-- nothing was made of it
+pub unchanged : (es : Entries) → map (λ e. (e.0, e.1)) es ≡ es
+unchanged [] = refl
+unchanged (e ∷ es) = ap (λ (l : Entries). e ∷ l) (unchanged es)

@@ -1,5 +1,5 @@
 -- A call on a store, as the callers of the whole see it.
-use Rattle.std.proofs.Common.{◌≡◌, ◌⊎◌, inl, inr, refl, subst, ℕ, ℤ, List, Option, Some, None, Result, to_z, of_z, w32, w64, FitsSigned}
+use Rattle.std.proofs.Common.{◌≡◌, ◌⊎◌, inl, inr, refl, sym, subst, ℕ, ℤ, List, Option, Some, None, Result, to_z, of_z, w32, w64, FitsSigned}
 use Rattle.std.specs.Option.{IsSome}
 use Rattle.std.proofs.lemmas.Int.{to_z-of_z}
 use Rattle.share_model.specs.Keys.{KeyParts}
@@ -93,4 +93,15 @@ pub rearmed : {D : Type 0} (seen : D → DiskView) (old new : JournalParts D) (e
     → ((frames : List (List ℕ)) (sealing : Option (List (List ℕ))) (pending : Option (List ℕ)) → Keeps seen old frames sealing pending → Keeps seen new frames sealing pending)
     → (pending : Option Entries) → Holds seen (record { journal = old; entries = entries; room = room }) pending → Holds seen (record { journal = new; entries = entries; room = room }) pending
 rearmed seen old new entries room stays pending held =
-    holds_by seen new entries room held.frames held.sealing held.unwritten pending (stays held.frames held.sealing held.unwritten held.keeps) held.taken held.few held.leaves held.sealed
+    holds_by seen new entries held.written room held.frames held.sealing held.unwritten pending (stays held.frames held.sealing held.unwritten held.keeps)
+    held.taken held.kept held.few held.leaves held.sealed
+
+-- memory was set aside
+pub reroomed : {D : Type 0} (seen : D → DiskView) (old new : StoreParts D) → new.journal ≡ old.journal → new.entries ≡ old.entries → (pending : Option Entries)
+    → Holds seen old pending → Holds seen new pending
+reroomed {D} seen old new journal entries pending held =
+    let at : Holds seen (record { journal = old.journal; entries = old.entries; room = new.room }) pending =
+    holds_by seen old.journal old.entries held.written new.room held.frames held.sealing held.unwritten pending held.keeps held.taken held.kept held.few held.leaves held.sealed in
+    let same : ◌≡◌ {A = StoreParts D} (record { journal = old.journal; entries = old.entries; room = new.room }) new =
+    λ i. record { journal = sym journal i; entries = sym entries i; room = new.room } in
+    subst (λ (s : StoreParts D). Holds seen s pending) same at

@@ -9,10 +9,11 @@ use Rattle.state_records.specs.States.{IsKey}
 use Rattle.state_records.specs.declared.record.StateRecord.{StateRecord}
 use Rattle.state_records.specs.declared.record.StateRecord.TheVariants.{Snapshot}
 use Rattle.share_coord.specs.Calls.{IsInitialised, init_refusal}
-use Rattle.share_coord.specs.Planning.{GoesOn, IsFirst, fresh_kept, left_by, record_of}
+use Rattle.share_coord.specs.Planning.{GoesOn, IsFirst, LeadsTo, fresh_kept, left_by, record_of}
 use Rattle.share_coord.specs.Putting.{FitFrames, FitsFrame, IsPut}
 use Rattle.share_coord.specs.Recorded.{IsInitRecord}
-use Rattle.share_coord.specs.Stored.{Entries, Follows, kept_at, next_snapshot, renewed, renewed_kept, with_kept}
+use Rattle.share_coord.specs.Stored.{Entries, kept_at, next_snapshot, renewed, renewed_kept, with_kept}
+use Rattle.share_coord.specs.Unwritten.{AreKeptOf, IsKeptOf}
 use Rattle.share_coord.specs.declared.plan.Fresh.{Fresh}
 use Rattle.share_coord.specs.Parts.{KeptState}
 use Rattle.share_coord.specs.Tables.{found}
@@ -20,13 +21,20 @@ use Rattle.share_coord.specs.declared.view.Kept.{Kept}
 use Rattle.share_coord.proofs.Keys.{clash, kept_renewed}
 use Rattle.share_coord.proofs.Planning.{at_some, fit_fresh, fits_snapshot, fresh_of, if_some}
 use Rattle.share_coord.proofs.Spans.{nothing_laid}
+use Rattle.share_coord.proofs.Unwritten.{alike_with, next_same, unraised_self}
 
 abbrev initial : KeyParts → ℕ → ℤ → ℤ → List Run → StateRecord
 initial key n state start runs =
     Snapshot (record { key = key; snapshot = n; state_epoch = state; leader_epoch = pos 0; start = start; complete = Some (complete_rows runs); runs = runs })
 
 abbrev first_of : ℤ → ℤ → List Run → ℕ → KeptState
-first_of state start runs n = record { view = record { state_epoch = state; leader_epoch = pos 0; start = start; runs = runs }; snapshot = n; updates = 0 }
+first_of state start runs n = record {
+  view = record { state_epoch = state; leader_epoch = pos 0; start = start; runs = runs };
+  snapshot = n;
+  updates = 0;
+  raised = false;
+  tells = false;
+}
 
 -- the record behind a checkpoint, where the key is known or not
 abbrev pub IsFreshInit : KeyParts → ℤ → ℤ → Bool → Fresh → Type 0
@@ -63,31 +71,43 @@ module _ (old : Entries) (key : KeyParts) (state start : ℤ) (runs : List Run) 
       → fresh_kept kept fresh ≡ first_of state start [] (next_snapshot (kept_at (renewed old) key))
   behind_kept f h is = ap (fresh_kept kept) is ∙ (ap (λ (k : KeptState). fresh_kept k (Some f)) kept_is
       ∙ (ap (λ (l : List Run). fresh_kept (first_of state start l n) (Some f)) none
-      ∙ λ i. record { view = record { state_epoch = state; leader_epoch = pos 0; start = start; runs = [] }; snapshot = (h.1 ∙ next_behind) i; updates = h.2 i }))
+      ∙ λ i. record {
+        view = record { state_epoch = state; leader_epoch = pos 0; start = start; runs = [] };
+        snapshot = (h.1 ∙ next_behind) i;
+        updates = h.2 i;
+        raised = false;
+        tells = false;
+      }))
 
-  follows_by : (es : Entries) (m : ℕ) → m ≡ next_snapshot (kept_at es key) → Follows es (initial key m state start []) (with_kept es key (first_of state start [] m))
-  follows_by es m is = record {
-    runs = [];
-    next = is;
-    laid = nothing_laid start;
-    few = omega arith;
-    told = refl;
-    is = refl;
-  }
+  -- the first of its key, or one more than those that are written
+  leads_by : (base es : Entries) (m : ℕ) → AreKeptOf base es → m ≡ next_snapshot (kept_at es key)
+      → LeadsTo base (initial key m state start []) (with_kept es key (first_of state start [] m))
+  leads_by base es m from is = (
+    with_kept base key (first_of state start [] m),
+    record {
+      runs = [];
+      next = is ∙ sym (next_same base es key from);
+      laid = nothing_laid start;
+      few = omega arith;
+      told = refl;
+      is = refl;
+    },
+    alike_with IsKeptOf base es key (first_of state start [] m) (first_of state start [] m) from (unraised_self (first_of state start [] m) refl),
+  )
 
   pub init_goes : GoesOn old plain (record_of fresh) (left_by old key kept fresh)
-  init_goes false one is =
-      subst (λ (r : StateRecord). Follows old r (with_kept old key kept)) (sym (is ∙ (plain_is ∙ ap (initial key n state start) none)))
-      (subst (λ (k : KeptState). Follows old (initial key n state start []) (with_kept old key k)) (sym (kept_is ∙ ap (λ (l : List Run). first_of state start l n) none))
-      (follows_by old n next))
-  init_goes true one is =
+  init_goes false one is base from =
+      subst (λ (r : StateRecord). LeadsTo base r (with_kept old key kept)) (sym (is ∙ (plain_is ∙ ap (initial key n state start) none)))
+      (subst (λ (k : KeptState). LeadsTo base (initial key n state start []) (with_kept old key k)) (sym (kept_is ∙ ap (λ (l : List Run). first_of state start l n) none))
+      (leads_by base old n from next))
+  init_goes true one is base from =
       let f = fresh_of fresh one is in
       let h = at_some (IsFreshInit key state start is_known) fresh f.0 f.1 is_fresh in
       let m = next_snapshot (kept_at (renewed old) key) in
-      subst (λ (r : StateRecord). Follows (renewed old) r (with_kept (renewed old) key (fresh_kept kept fresh)))
+      subst (λ (r : StateRecord). LeadsTo base r (with_kept (renewed old) key (fresh_kept kept fresh)))
       (sym (f.2 ∙ (h.0 ∙ ap (λ (k : ℕ). initial key k state start []) next_behind)))
-      (subst (λ (k : KeptState). Follows (renewed old) (initial key m state start []) (with_kept (renewed old) key k)) (sym (behind_kept f.0 h f.1))
-      (follows_by (renewed old) m refl))
+      (subst (λ (k : KeptState). LeadsTo base (initial key m state start []) (with_kept (renewed old) key k)) (sym (behind_kept f.0 h f.1))
+      (leads_by base (renewed old) m from refl))
 
   pub init_left : init_refusal (kept_at old key) state start ≡ None → (c : Bool) (one : StateRecord) → IsPut plain (record_of fresh) c one
       → IsInitialised old key state start (left_by old key kept fresh c)
@@ -119,6 +139,7 @@ module _ (old : Entries) (key : KeyParts) (state start : ℤ) (runs : List Run) 
   init_first unknown zero = (
     ap (λ (k : KeptState). k.snapshot) kept_is ∙ zero,
     ap (λ (k : KeptState). k.updates) kept_is,
+    ap (λ (k : KeptState). k.raised) kept_is,
     if_some (IsFreshInit key state start is_known) (λ f. (f.snapshot ≡ 0) × (f.updates ≡ 0)) fresh
         (λ f h. (h.1 ∙ ap (λ (b : Bool). if b then 1 else 0) unknown, h.2)) is_fresh,
   )

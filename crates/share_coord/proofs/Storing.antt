@@ -14,7 +14,8 @@ use Rattle.state_records.specs.Spelling.{IsRecord, record_bytes}
 use Rattle.state_records.specs.declared.record.StateRecord.{StateRecord}
 use Rattle.share_coord.specs.Putting.{IsPut, Puts}
 use Rattle.share_coord.specs.Stored.{Entries, based_kept}
-use Rattle.share_coord.specs.Recorded.{IsBased, IsWriteRecord, StoresOne, write_record}
+use Rattle.share_coord.specs.Calls.{counted}
+use Rattle.share_coord.specs.Recorded.{IsBased, IsWriteRecord, StoresOne, start_told, write_record}
 use Rattle.share_coord.specs.declared.fault.CoordFault.{CoordFault}
 use Rattle.share_coord.specs.declared.fault.CoordFault.TheVariants.{Store}
 use Rattle.share_coord.specs.Parts.{KeptState}
@@ -132,7 +133,11 @@ one_write old key state leader start runs a b p q behind =
     subst (λ (k : KeptState). AreLaid (start_after k.view.start start) k.view.runs p.written q.laid) (sym kept)
     (subst (λ (w : List Run). AreLaid (start_after q.kept.view.start start) q.kept.view.runs w q.laid) (sym written) q.are_laid) in
     let laid : p.laid ≡ q.laid = laid_once (start_after p.kept.view.start start) p.kept.view.runs p.written p.laid q.laid p.are_laid also in
-    p.is ∙ (ap (λ (k : KeptState). write_record key (based_kept p.checkpointed k) state leader start p.written p.laid) kept
-    ∙ (ap (λ (c : Bool). write_record key (based_kept c q.kept) state leader start p.written p.laid) behind
-    ∙ (ap (λ (w : List Run). write_record key (based_kept q.checkpointed q.kept) state leader start w p.laid) written
-    ∙ ap (λ (l : List Run). write_record key (based_kept q.checkpointed q.kept) state leader start q.written l) laid))) ∙ sym q.is
+    p.is ∙ (ap (λ (k : KeptState). write_record key (based_kept p.checkpointed (counted k (start_after k.view.start start))) state leader (start_told k start)
+    p.written p.laid) kept
+    ∙ (ap (λ (c : Bool). write_record key (based_kept c (counted q.kept (start_after q.kept.view.start start))) state leader (start_told q.kept start)
+    p.written p.laid) behind
+    ∙ (ap (λ (w : List Run). write_record key (based_kept q.checkpointed (counted q.kept (start_after q.kept.view.start start))) state leader
+    (start_told q.kept start) w p.laid) written
+    ∙ ap (λ (l : List Run). write_record key (based_kept q.checkpointed (counted q.kept (start_after q.kept.view.start start))) state leader
+    (start_told q.kept start) q.written l) laid))) ∙ sym q.is

@@ -51,14 +51,14 @@ without_shown (e ∷ es) key = in_cond (is_at (key_cmp key) e.0) es (e ∷ remov
 
 -- a checkpoint was made
 abbrev pub renewed_value : Kept → Kept
-renewed_value kept = record { view = kept.view; snapshot = 0; updates = 0 }
+renewed_value kept = record { view = kept.view; snapshot = 0; updates = 0; raised = false; tells = kept.tells }
 
 abbrev pub renewed_table : Table → Table
 renewed_table table = map (λ e. (e.0, renewed_value e.1)) table
 
 pub renewed_shown : (table : Table) → entries_in (renewed_table table) ≡ renewed (entries_in table)
 renewed_shown [] = refl
-renewed_shown (e ∷ es) = ap (λ (l : Entries). (e.0, record { view = e.1.view.state; snapshot = 0; updates = 0 }) ∷ l) (renewed_shown es)
+renewed_shown (e ∷ es) = ap (λ (l : Entries). (e.0, record { view = e.1.view.state; snapshot = 0; updates = 0; raised = false; tells = e.1.tells }) ∷ l) (renewed_shown es)
 
 pub keys_shown : (table : Table) → keys_of (entries_in table) ≡ keys_of table
 keys_shown [] = refl

@@ -18,6 +18,8 @@ made state leader start runs n m = record {
   view = record { state_epoch = state; leader_epoch = leader; start = start; runs = runs };
   snapshot = n;
   updates = m;
+  raised = false;
+  tells = false;
 }
 
 pub kept_state : (state leader start : ℤ) (runs : List Run) → IsEpoch state → IsEpoch leader → IsStart start → AreStoredRuns runs → length runs ≤ 1000000
@@ -60,6 +62,8 @@ module _ (old : Entries) (state : StateParts) (s : IsEpoch state.state_epoch) (l
         };
         snapshot = state.snapshot;
         updates = 0;
+        raised = false;
+        tells = false;
       })
       → IsSnapshotted old state new
   unfolding made
@@ -94,6 +98,8 @@ module _ (old : Entries) (state : StateParts) (s : IsEpoch state.state_epoch) (l
         };
         snapshot = state.snapshot;
         updates = n;
+        raised = false;
+        tells = false;
       })
       → IsUpdated old state new
   unfolding made

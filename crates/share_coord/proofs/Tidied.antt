@@ -10,8 +10,9 @@ use Rattle.coord_checkpoint.specs.Stores.{StoreParts as JournalParts}
 use Rattle.coord_checkpoint.specs.Writes.{IsLeftTrying, Tries}
 use Rattle.share_coord.specs.Holding.{Holds, StandWith, Tidies}
 use Rattle.share_coord.specs.Parts.{StoreParts}
-use Rattle.share_coord.specs.Stored.{Entries, based, renewed, snapshot_frames}
-use Rattle.share_coord.proofs.Held.{checkpoint_taken, holds_by, left_stands, none_lands, stands_now, states_as, states_by}
+use Rattle.share_coord.specs.Stored.{Entries, based, renewed, settled, snapshot_frames}
+use Rattle.share_coord.proofs.Held.{checkpoint_stands, checkpoint_taken, holds_by, left_stands, none_lands, stands_now, states_by}
+use Rattle.share_coord.proofs.Unwritten.{settled_of}
 
 module _ {D : Type 0} (seen : D → DiskView) (old new : JournalParts D) (entries : Entries) (room : ℕ)
     (sorted : IsStrictlySortedBy key_cmp (keys_of entries)) where
@@ -25,19 +26,20 @@ module _ {D : Type 0} (seen : D → DiskView) (old new : JournalParts D) (entrie
   stays true tries pending held =
       let h = tries.made refl held.frames held.sealing held.unwritten held.keeps in
       let few = h.1.few in
-      holds_by seen new (renewed entries) room h.0 None None pending h.2 (checkpoint_taken entries sorted held.frames h.0 held.taken h.1) few tt
+      holds_by seen new (renewed entries) (settled entries) room h.0 None None pending h.2
+      (checkpoint_taken entries held.written sorted held.frames h.0 held.taken held.kept h.1) (settled_of entries) few tt
       (none_lands (renewed entries))
   stays false tries pending held =
       let h = tries.kept refl held.frames held.sealing held.unwritten held.keeps in
-      holds_by seen new entries room held.frames h.0 held.unwritten pending h.2 held.taken held.few held.leaves
-      (λ landed at. ⊎_elim (λ was. held.sealed landed was) (λ k. checkpoint_taken entries sorted held.frames landed held.taken k) (h.1 landed at))
+      holds_by seen new entries held.written room held.frames h.0 held.unwritten pending h.2 held.taken held.kept held.few held.leaves
+      (λ landed at. ⊎_elim (λ was. held.sealed landed was) (λ k. checkpoint_stands entries held.written sorted held.frames landed held.taken held.kept k) (h.1 landed at))
 
   trying : (a b : List ℕ) (pending : Option Entries) (held : Holds seen Old pending) (found : List (List ℕ)) → IsListed a b found
       → IsLeftTrying held.frames held.sealing held.unwritten (snapshot_frames entries) found → StandWith a b entries pending
   trying a b pending held found listed (inl left) =
-      left_stands a b entries held.frames held.sealing held.unwritten pending held.taken held.leaves held.sealed found listed left
+      left_stands a b entries held.written held.frames held.sealing held.unwritten pending held.taken held.kept held.leaves held.sealed found listed left
   trying a b pending held found listed (inr k) =
-      stands_now a b entries pending (states_as a b entries (states_by a b found (renewed entries) listed (checkpoint_taken entries sorted held.frames found held.taken k)))
+      stands_now a b entries pending (states_by a b found entries listed (checkpoint_stands entries held.written sorted held.frames found held.taken held.kept k))
 
   moments : (c : Bool) → Tries seen (snapshot_frames entries) old new c → (pending : Option Entries) → Holds seen Old pending
       → LeavesPairs seen old.first.disk new.first.disk old.second.disk new.second.disk (λ a b. StandWith a b entries pending)

@@ -1,7 +1,7 @@
 -- What the calls on a store refuse, and what they leave (KIP-932, the share-group state calls; the limit on runs is this
 -- project's own).
 -- For example a write with leader epoch 3 on a key with 4 is fenced, and told 4.
-use Rattle.std.specs.Prelude.{◌≡◌, ◌≤◌, ◌<◌, ◌+◌, ℕ, ℤ, pos, negsuc, max, List, [], length, Some, None, Bool, int_lt, nat_lt, ◌||◌, not, if◌then◌else◌}
+use Rattle.std.specs.Prelude.{◌≡◌, ◌≤◌, ◌<◌, ◌+◌, ℕ, ℤ, pos, negsuc, max, List, [], length, Some, None, Bool, false, int_lt, nat_lt, ◌||◌, ◌&&◌, not, if◌then◌else◌}
 use Rattle.std.specs.List.{list_all}
 use Rattle.std.specs.declared.option.Option.{Option}
 use Rattle.share_model.specs.Keys.{KeyParts}
@@ -49,6 +49,8 @@ initialised old key state_epoch start = with_kept old key (record {
   view = record { state_epoch = state_epoch; leader_epoch = pos 0; start = start; runs = [] };
   snapshot = next_snapshot (kept_at old key);
   updates = 0;
+  raised = false;
+  tells = false;
 })
 
 -- an initialisation that isn't refused
@@ -57,12 +59,25 @@ pub record IsInitialised (old : Entries) (key : KeyParts) (state_epoch start : �
   pub checkpointed : Bool
   pub is : new ≡ initialised (based checkpointed old) key state_epoch start
 
--- A write is stored as an update, and as a snapshot where its key has 500 updates since its last one.
+-- A write is stored as an update, and as a snapshot where its key has 500 updates since its last one. Where the key's start was raised since it
+-- was written, and a write lowers it again, they count as 500: an update would bring back rows that went.
+abbrev pub counted : KeptState → ℤ → KeptState
+counted kept start = record {
+  view = kept.view;
+  snapshot = kept.snapshot;
+  updates = if kept.raised && int_lt start kept.view.start then 500 else kept.updates;
+  raised = kept.raised;
+  tells = kept.tells;
+}
+
+-- what a write leaves of a key whose updates count so
 abbrev pub written_of : KeptState → ℤ → ℤ → ℤ → List Run → KeptState
 written_of kept state_epoch leader_epoch start runs = record {
   view = record { state_epoch = state_epoch; leader_epoch = leader_epoch; start = start_after kept.view.start start; runs = runs };
   snapshot = if nat_lt kept.updates 500 then kept.snapshot else kept.snapshot + 1;
   updates = if nat_lt kept.updates 500 then kept.updates + 1 else 0;
+  raised = false;
+  tells = false;
 }
 
 -- A write that isn't refused: both epochs and the start are set, and these runs are laid over the key's.
@@ -77,7 +92,8 @@ pub record IsWritten (old : Entries) (key : KeyParts) (state_epoch leader_epoch 
   pub are_laid : AreLaid (start_after kept.view.start start) kept.view.runs written laid
   pub few_written : length written ≤ 1000000
   pub few : length laid ≤ 1000000
-  pub is : new ≡ with_kept (based checkpointed old) key (written_of (based_kept checkpointed kept) state_epoch leader_epoch start laid)
+  pub is : new ≡ with_kept (based checkpointed old) key
+      (written_of (based_kept checkpointed (counted kept (start_after kept.view.start start))) state_epoch leader_epoch start laid)
 
 -- The rows written, or those that the key would have, are more than 1000000 runs; this is the greater of both numbers.
 pub record IsTooMany (old : Entries) (key : KeyParts) (start : ℤ) (runs : List Run) (count : ℕ) : Type 0 where

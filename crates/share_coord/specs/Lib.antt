@@ -2,6 +2,8 @@ pub mod Views
 pub mod Parts
 pub mod Tables
 pub mod Stored
+pub mod Raising
+pub mod Unwritten
 pub mod States
 pub mod Calls
 pub mod Holding

@@ -9,12 +9,14 @@ use Rattle.coord_checkpoint.specs.declared.fault.CoordOpen.TheVariants.{Damaged,
 use Rattle.share_coord.specs.Holding.{Holds}
 use Rattle.share_coord.specs.Parts.{StoreParts}
 use Rattle.share_coord.specs.Stored.{Entries, AreStored, AreDamaged}
+use Rattle.share_coord.specs.Unwritten.{AreUnraised}
 use Rattle.edge_io.specs.Views.{DiskView}
 
 -- A store that was opened of two disks.
 pub record IsOpened {D : Type 0} (seen : D → DiskView) (a b : D) (store : StoreParts D) : Type 0 where
-  -- each image stands for its states from now on, and nothing is pending
+  -- each image stands for its states from now on, and nothing is pending; no start was raised
   pub holds : Holds seen store None
+  pub unraised : AreUnraised store.entries
   -- the contents stood for these states, and for no others
   pub opens : (x y : List ℕ) → (seen a).content ≡ Some x → (seen b).content ≡ Some y → AreStored x y store.entries
   pub only : (x y : List ℕ) (entries : Entries) → (seen a).content ≡ Some x → (seen b).content ≡ Some y → AreStored x y entries → store.entries ≡ entries

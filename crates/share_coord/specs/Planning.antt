@@ -16,6 +16,7 @@ use Rattle.share_coord.specs.Tables.{shown}
 use Rattle.share_coord.specs.declared.plan.Fresh.{Fresh}
 use Rattle.share_coord.specs.declared.plan.Changes.{Changes}
 use Rattle.share_coord.specs.Parts.{KeptState}
+use Rattle.share_coord.specs.Unwritten.{AreKeptOf}
 
 abbrev pub record_of : Option Fresh → Option StateRecord
 record_of fresh = option_map (λ f. f.written) fresh
@@ -23,17 +24,27 @@ record_of fresh = option_map (λ f. f.written) fresh
 -- what is kept of the key behind a checkpoint
 abbrev pub fresh_kept : KeptState → Option Fresh → KeptState
 fresh_kept kept None = kept
-fresh_kept kept (Some fresh) = record { view = kept.view; snapshot = fresh.snapshot; updates = fresh.updates }
+fresh_kept kept (Some fresh) = record {
+  view = kept.view;
+  snapshot = fresh.snapshot;
+  updates = fresh.updates;
+  raised = kept.raised;
+  tells = kept.tells;
+}
 
 -- what the call leaves, where a checkpoint was made before it, and where none was
 abbrev pub left_by : Entries → KeyParts → KeptState → Option Fresh → Bool → Entries
 left_by old key kept fresh false = with_kept old key kept
 left_by old key kept fresh true = with_kept (renewed old) key (fresh_kept kept fresh)
 
--- Each record goes on from the entries behind which it is put, and leaves these.
+-- a record goes on from what is written, and leaves that of which these are kept
+abbrev pub LeadsTo : Entries → StateRecord → Entries → Type 0
+LeadsTo written one kept = (new : Entries) × Follows written one new × AreKeptOf new kept
+
+-- Each record goes on from what is written when it is put, and leaves these.
 abbrev pub GoesOn : Entries → StateRecord → Option StateRecord → (Bool → Entries) → Type 0
 GoesOn old plain fresh next = (checkpointed : Bool) (one : StateRecord) → IsPut plain fresh checkpointed one →
-    Follows (based checkpointed old) one (next checkpointed)
+    (written : Entries) → AreKeptOf written (based checkpointed old) → LeadsTo written one (next checkpointed)
 
 -- what it leaves, in either case
 abbrev pub LeavesPlanned : Entries → KeyParts → Changes → Entries → Type 0
@@ -47,7 +58,7 @@ IsEither plain fresh one = (checkpointed : Bool) × IsPut plain fresh checkpoint
 
 -- the first snapshot of its key in either case
 abbrev pub IsFirst : KeptState → Option Fresh → Type 0
-IsFirst kept fresh = (kept.snapshot ≡ 0) × (kept.updates ≡ 0) × IfSome fresh (λ f. (f.snapshot ≡ 0) × (f.updates ≡ 0))
+IsFirst kept fresh = (kept.snapshot ≡ 0) × (kept.updates ≡ 0) × (kept.raised ≡ false) × IfSome fresh (λ f. (f.snapshot ≡ 0) × (f.updates ≡ 0))
 
 -- A write whose numbers are not refused, on a key that is kept so.
 pub record IsPlanned (key : KeyParts) (known : KeptState) (state_epoch leader_epoch start : ℤ) (runs : List Run) (plain : StateRecord) (kept : KeptState)

@@ -1,9 +1,10 @@
 -- Which record a call stores, and what stands of it on the disks. This project's own.
 -- Worked example: a key has start 7, and a row at 8. A write of a row at 9 with start 7 stores an update with start 7
 -- and the one run from 9 to 9, and with start -1 the same with -1. Where the key has 500 updates since its last
--- snapshot, either stores a snapshot with start 7 and the rows at 8 and 9. Behind a checkpoint the key has no update since.
+-- snapshot, either stores a snapshot with start 7 and the rows at 8 and 9. Behind a checkpoint the key has no update since. Where the start was
+-- raised to 7, the write with start -1 stores the update with start 7.
 use Rattle.std.specs.Prelude.{◌≡◌, ◌⊎◌, ◌<◌, ◌≤◌, ◌+◌, ◌^◌, ℕ, ℤ, pos, List, [], ◌∷◌, ◌++◌, length}
-use Rattle.std.specs.Prelude.{nat_lt, if◌then◌else◌, Some, None, Bool, Result, Err, OnOk}
+use Rattle.std.specs.Prelude.{int_lt, nat_lt, ◌&&◌, if◌then◌else◌, Some, None, Bool, Result, Err, OnOk}
 use Rattle.std.specs.declared.option.Option.{Option}
 use Rattle.coord_checkpoint.specs.Stores.{Keeps, StoreParts as JournalParts}
 use Rattle.checkpoint_journal.specs.Checkpoints.{IsCheckpoint}
@@ -16,6 +17,7 @@ use Rattle.offset_runs.specs.Complete.{complete_rows}
 use Rattle.state_records.specs.Spelling.{record_bytes}
 use Rattle.state_records.specs.declared.record.StateRecord.{StateRecord}
 use Rattle.state_records.specs.declared.record.StateRecord.TheVariants.{Snapshot, Update}
+use Rattle.share_coord.specs.Calls.{counted}
 use Rattle.share_coord.specs.Stored.{Entries, based, based_kept, kept_at, next_snapshot}
 use Rattle.share_coord.specs.declared.fault.CoordFault.{CoordFault}
 use Rattle.share_coord.specs.declared.fault.CoordFault.TheVariants.{Store as store_fault}
@@ -35,7 +37,11 @@ init_record old key state_epoch start = Snapshot (record {
   runs = [];
 })
 
--- A write stores an update with the numbers as they were given and the rows that it writes; behind 500 updates it
+-- The start that a record tells is the one that is given; where none is, and the key's was raised since a call stored it, it is the key's.
+abbrev pub start_told : KeptState → ℤ → ℤ
+start_told kept start = if kept.tells && int_lt start (pos 0) then kept.view.start else start
+
+-- A write stores an update with the epochs that were given, the start that is told and the rows that it writes; behind 500 updates it
 -- stores a snapshot of all that the key then has. Either tells how many rows of the key are complete then.
 abbrev pub write_record : KeyParts → KeptState → ℤ → ℤ → ℤ → (written laid : List Run) → StateRecord
 write_record key kept state_epoch leader_epoch start written laid = if nat_lt kept.updates 500
@@ -72,7 +78,8 @@ pub record IsWriteRecord (old : Entries) (key : KeyParts) (state_epoch leader_ep
   pub known : kept_at old key ≡ Some kept
   pub are_written : AreWritten runs written
   pub are_laid : AreLaid (start_after kept.view.start start) kept.view.runs written laid
-  pub is : one ≡ write_record key (based_kept checkpointed kept) state_epoch leader_epoch start written laid
+  pub is : one ≡ write_record key (based_kept checkpointed (counted kept (start_after kept.view.start start))) state_epoch leader_epoch
+      (start_told kept start) written laid
 
 -- ---- what stands of it
 

@@ -53,6 +53,8 @@ snapshot_of state runs = record {
   view = record { state_epoch = state.state_epoch; leader_epoch = state.leader_epoch; start = state.start; runs = runs };
   snapshot = state.snapshot;
   updates = 0;
+  raised = false;
+  tells = false;
 }
 
 -- what an update leaves of its key, with these runs; updates are counted up to 500
@@ -61,6 +63,8 @@ update_of kept state runs = record {
   view = record { state_epoch = state.state_epoch; leader_epoch = state.leader_epoch; start = start_after kept.view.start state.start; runs = runs };
   snapshot = kept.snapshot;
   updates = min (kept.updates + 1) 500;
+  raised = false;
+  tells = false;
 }
 
 -- the number that a record tells, if it tells one, is that of the complete rows of these runs
@@ -180,12 +184,19 @@ AreDamaged first second on_second place = IsUnlisted first second on_second plac
 
 -- ---- what a checkpoint leaves
 
--- its last snapshot is its first, and no update follows
+-- its last snapshot is its first, no update follows, and what is kept is written
 abbrev pub renewed_kept : KeptState → KeptState
-renewed_kept kept = record { view = kept.view; snapshot = 0; updates = 0 }
+renewed_kept kept = record { view = kept.view; snapshot = 0; updates = 0; raised = false; tells = kept.tells }
 
 abbrev pub renewed : Entries → Entries
 renewed entries = map (λ e. (e.0, renewed_kept e.1)) entries
+
+-- what its snapshots stand for
+abbrev pub settled_kept : KeptState → KeptState
+settled_kept kept = record { view = kept.view; snapshot = 0; updates = 0; raised = false; tells = false }
+
+abbrev pub settled : Entries → Entries
+settled entries = map (λ e. (e.0, settled_kept e.1)) entries
 
 -- the entries from which a call goes on: as they were, or as a checkpoint leaves them
 abbrev pub based : Bool → Entries → Entries

@@ -9,7 +9,13 @@ use Rattle.share_coord.specs.declared.view.Kept.{Kept}
 use denote.Ref.{Bor}
 
 abbrev pub shown : Kept → KeptState
-shown kept = record { view = kept.view.state; snapshot = kept.snapshot; updates = kept.updates }
+shown kept = record {
+  view = kept.view.state;
+  snapshot = kept.snapshot;
+  updates = kept.updates;
+  raised = kept.raised;
+  tells = kept.tells;
+}
 
 abbrev pub entries_in : List (KeyParts × Kept) → List (KeyParts × KeptState)
 entries_in entries = map (λ e. (e.0, shown e.1)) entries

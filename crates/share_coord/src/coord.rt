@@ -15,6 +15,7 @@ ghost use Rattle.share_coord.specs.Recorded.{IsInitRecord, IsWriteRecord, Stores
 ghost use Rattle.share_coord.specs.Putting.{stored_as};
 ghost use Rattle.share_coord.specs.Rooms.{IsGranted, IsOwnRecord, IsOwnWritten};
 ghost use Rattle.share_coord.specs.States.{state_found, states_of};
+ghost use Rattle.share_coord.specs.Unwritten.{raised_all, raised_entries};
 ghost use Rattle.state_records.specs.declared.record.StateRecord.TheVariants.{Removal};
 
 use crate::fault::CoordFault;
@@ -118,7 +119,8 @@ impl<D: Disk> Coord<D> {
 
     /// Sets both epochs of a key, and its start unless that is -1, and lays these runs over its rows, a later run
     /// winning over an earlier one; rows below the start go. It is stored as an update with the rows that are
-    /// written, and as a snapshot where the key has 500 updates since its last one.
+    /// written, and as a snapshot where the key has 500 updates since its last one, or where it lowers a start that
+    /// [`Coord::raise`] raised.
     ///
     /// Refused are an epoch below 0, a start below -1 or a run out of range; then a key that isn't there; a leader
     /// epoch below the known one; a state epoch below the known one; and more than 1000000 runs. It costs the runs
@@ -207,6 +209,32 @@ impl<D: Disk> Coord<D> {
         ensures { IsHeld D.seen self.now }
     {
         let _ = &self.store;
+    }
+
+    /// Lets the state of a key start at an offset, where it is there and starts below it: its rows below that go.
+    ///
+    /// Nothing is written, and no memory taken. So a crash finds the key as it was stored, which is, once raised, what is
+    /// kept of it. The key's next update tells its start, also where it stays, and a checkpoint writes the key as it is
+    /// kept. The state that a pending write would leave is raised too.
+    pub fn raise(&mut self, key: &Key, start: i64)
+        ensures entries { self.new.entries ≡ raised_entries self.old.entries key.now start }
+        ensures journal { self.new.journal ≡ self.old.journal }
+        ensures room { self.new.room ≡ self.old.room }
+        ensures holds { (pending : Option Entries) → Holds D.seen self.old pending →
+            Holds D.seen self.new (option_map (λ entries. raised_entries entries key.now start) pending) }
+    {
+        self.store.raise(key, start);
+    }
+
+    /// Does the same to each key. It costs all rows.
+    pub fn raise_all(&mut self, start: i64)
+        ensures entries { self.new.entries ≡ raised_all start self.old.entries }
+        ensures journal { self.new.journal ≡ self.old.journal }
+        ensures room { self.new.room ≡ self.old.room }
+        ensures holds { (pending : Option Entries) → Holds D.seen self.old pending →
+            Holds D.seen self.new (option_map (raised_all start) pending) }
+    {
+        self.store.raise_all(start);
     }
 
     /// The state of a key. `None` where it isn't there.

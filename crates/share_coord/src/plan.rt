@@ -1,5 +1,5 @@
 // What a write leaves of its key, and the record that says so.
-ghost use Rattle.std.specs.Prelude.{◌≡◌, ◌≢◌, ◌⊎◌, ◌<◌, ◌≤◌, ◌+◌, ◌^◌, ℕ, List, length, true, Some, None, IfOk, IfErr, IfSome, []};
+ghost use Rattle.std.specs.Prelude.{◌≡◌, ◌≢◌, ◌⊎◌, ◌<◌, ◌≤◌, ◌+◌, ◌^◌, ℕ, List, length, true, Some, None, IfOk, IfErr, IfSome, false, []};
 ghost use Rattle.std.specs.List.{list_all};
 ghost use Rattle.share_model.specs.ShareStates.{is_writable, start_after};
 ghost use Rattle.offset_runs.specs.Changes.{room_of};
@@ -79,12 +79,13 @@ pub(crate) fn key_fits(key: &Key)
 fn update(
     numbers: &Numbers,
     kept: &Kept,
+    told: i64,
     start: i64,
     over: Runs,
     rows: Runs,
     complete: u64,
 ) -> Change
-    requires ranges { IsEpoch numbers.now.state_epoch × IsEpoch numbers.now.leader_epoch × IsStart numbers.now.start }
+    requires ranges { IsEpoch numbers.now.state_epoch × IsEpoch numbers.now.leader_epoch × IsStart told }
     requires start { IsStart start }
     requires over { AreStoredRuns over.list }
     requires few { length over.list ≤ 1000000 }
@@ -97,7 +98,7 @@ fn update(
       snapshot = kept.now.snapshot;
       state_epoch = numbers.now.state_epoch;
       leader_epoch = numbers.now.leader_epoch;
-      start = numbers.now.start;
+      start = told;
       complete = Some (complete_rows rows.list);
       runs = over.list;
     }) }
@@ -105,6 +106,8 @@ fn update(
       view = record { state_epoch = numbers.now.state_epoch; leader_epoch = numbers.now.leader_epoch; start = start; runs = rows.list };
       snapshot = kept.now.snapshot;
       updates = kept.now.updates + 1;
+      raised = false;
+      tells = false;
     } }
     ensures room { result.kept.view.room ≡ room_of rows }
 {
@@ -114,7 +117,7 @@ fn update(
             snapshot: kept.snapshot,
             state_epoch: numbers.state_epoch,
             leader_epoch: numbers.leader_epoch,
-            start: numbers.start,
+            start: told,
             complete: Some(complete),
             runs: Items::new(over.into_vec()),
         }),
@@ -128,6 +131,8 @@ fn update(
             },
             snapshot: kept.snapshot,
             updates: kept.updates + 1,
+            raised: false,
+            tells: false,
         },
     }
 }
@@ -159,6 +164,8 @@ pub(crate) fn snapshot(
       view = record { state_epoch = numbers.now.state_epoch; leader_epoch = numbers.now.leader_epoch; start = start; runs = rows.list };
       snapshot = snapshot;
       updates = 0;
+      raised = false;
+      tells = false;
     }) }
     ensures room { IfOk result (λ c. c.kept.view.room ≡ room_of rows) }
 {
@@ -183,6 +190,8 @@ pub(crate) fn snapshot(
             },
             snapshot,
             updates: 0,
+            raised: false,
+            tells: false,
         },
     })
 }
@@ -208,6 +217,8 @@ pub(crate) fn empty_snapshot(
       view = record { state_epoch = numbers.now.state_epoch; leader_epoch = numbers.now.leader_epoch; start = numbers.now.start; runs = [] };
       snapshot = snapshot;
       updates = 0;
+      raised = false;
+      tells = false;
     }) }
     ensures room { IfOk result (λ c. room ≤ c.kept.view.room) }
 {
@@ -231,6 +242,8 @@ pub(crate) fn empty_snapshot(
             },
             snapshot,
             updates: 0,
+            raised: false,
+            tells: false,
         },
     })
 }
@@ -239,10 +252,11 @@ pub(crate) fn empty_snapshot(
 fn fresh_update(
     alloc: Global,
     numbers: &Numbers,
+    told: i64,
     over: &Runs,
     complete: u64,
 ) -> Result<Fresh, NoMemory>
-    requires ranges { IsEpoch numbers.now.state_epoch × IsEpoch numbers.now.leader_epoch × IsStart numbers.now.start }
+    requires ranges { IsEpoch numbers.now.state_epoch × IsEpoch numbers.now.leader_epoch × IsStart told }
     requires over { AreStoredRuns over.now.list }
     requires few { length over.now.list ≤ 1000000 }
     ensures written { IfOk result (λ f. f.written ≡ update_record (record {
@@ -250,7 +264,7 @@ fn fresh_update(
       snapshot = 0;
       state_epoch = numbers.now.state_epoch;
       leader_epoch = numbers.now.leader_epoch;
-      start = numbers.now.start;
+      start = told;
       complete = Some complete;
       runs = over.now.list;
     })) }
@@ -263,7 +277,7 @@ fn fresh_update(
             snapshot: 0,
             state_epoch: numbers.state_epoch,
             leader_epoch: numbers.leader_epoch,
-            start: numbers.start,
+            start: told,
             complete: Some(complete),
             runs: Items::new(copy),
         }),
@@ -276,11 +290,12 @@ fn fresh_update(
 fn fresh_where(
     alloc: Global,
     numbers: &Numbers,
+    told: i64,
     over: &Runs,
     complete: u64,
     tries: bool,
 ) -> Result<Option<Fresh>, NoMemory>
-    requires ranges { IsEpoch numbers.now.state_epoch × IsEpoch numbers.now.leader_epoch × IsStart numbers.now.start }
+    requires ranges { IsEpoch numbers.now.state_epoch × IsEpoch numbers.now.leader_epoch × IsStart told }
     requires over { AreStoredRuns over.now.list }
     requires few { length over.now.list ≤ 1000000 }
     ensures { IfOk result (λ o. IfSome o (λ f. (f.written ≡ update_record (record {
@@ -288,7 +303,7 @@ fn fresh_where(
       snapshot = 0;
       state_epoch = numbers.now.state_epoch;
       leader_epoch = numbers.now.leader_epoch;
-      start = numbers.now.start;
+      start = told;
       complete = Some complete;
       runs = over.now.list;
     })) × (f.snapshot ≡ 0) × (f.updates ≡ 1))) }
@@ -296,7 +311,7 @@ fn fresh_where(
     if !tries {
         return Ok(None);
     }
-    let fresh = fresh_update(alloc, numbers, over, complete)?;
+    let fresh = fresh_update(alloc, numbers, told, over, complete)?;
     Ok(Some(fresh))
 }
 
@@ -350,6 +365,7 @@ pub(crate) fn planned(
 {
     kept.view.known();
     key_fits(&numbers.key);
+    let told = kept.start_told(numbers.start);
     let start = start_after(kept.view.start, numbers.start);
     let Ok(over) = written(alloc, runs) else {
         return Err(CoordFault::NoMemory);
@@ -362,12 +378,13 @@ pub(crate) fn planned(
         return Err(CoordFault::TooMany { runs: count as u64 });
     }
     let complete = complete_after(&kept.view.runs, kept.view.complete(), &over, start);
-    let Ok(fresh) = fresh_where(alloc, numbers, &over, complete, tries) else {
+    let Ok(fresh) = fresh_where(alloc, numbers, told, &over, complete, tries) else {
         return Err(CoordFault::NoMemory);
     };
-    if kept.updates < 500 {
+    let updates = kept.counted(start);
+    if updates < 500 {
         return Ok(Changes {
-            change: update(numbers, kept, start, over, rows, complete),
+            change: update(numbers, kept, told, start, over, rows, complete),
             fresh,
         });
     }

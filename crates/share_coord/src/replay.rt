@@ -76,6 +76,8 @@ fn take_snapshot(table: &mut Table, state: KeyState) -> Result<bool, NoMemory>
         },
         snapshot,
         updates: 0,
+        raised: false,
+        tells: false,
     };
     table.insert(&key, kept)?;
     Ok(true)
@@ -129,6 +131,8 @@ fn take_update(alloc: Global, table: &mut Table, state: KeyState) -> Result<bool
         },
         snapshot,
         updates,
+        raised: false,
+        tells: false,
     };
     table.insert(&key, kept)?;
     Ok(true)

@@ -1,5 +1,5 @@
 // A write that takes no memory.
-ghost use Rattle.std.specs.Prelude.{◌≡◌, ◌≤◌, ◌<◌, ◌+◌, ◌*◌, ◌^◌, ℕ, List, Bool, true, length, vec_capacity};
+ghost use Rattle.std.specs.Prelude.{◌≡◌, ◌≤◌, ◌<◌, ◌+◌, ◌*◌, ◌^◌, ℕ, List, Bool, true, false, length, vec_capacity};
 ghost use Rattle.std.specs.List.{list_all};
 ghost use Rattle.std.specs.Option.{option_or};
 ghost use Rattle.gate_journal.specs.Frames.{frame_in};
@@ -10,7 +10,7 @@ ghost use Rattle.offset_runs.specs.Changes.{Overlays, room_of};
 ghost use Rattle.offset_runs.specs.Complete.{complete_rows};
 ghost use Rattle.state_records.specs.Spelling.{IsRecord, record_bytes};
 ghost use Rattle.state_records.specs.States.{AreStoredRuns, IsEpoch, IsKey, IsStart};
-ghost use Rattle.share_coord.specs.Reserved.{lent_record, own_of, own_record};
+ghost use Rattle.share_coord.specs.Reserved.{lent_record, own_record, own_with};
 ghost use Rattle.share_coord.specs.Tables.{shown};
 ghost use Rattle.share_coord.specs.Views.{IsKeptState};
 
@@ -152,11 +152,12 @@ pub(crate) struct Own {
     pub is_update: bool,
 }
 
-pub(crate) fn own_numbers(kept: &Kept, after: After) -> Own
+// Its numbers, where so many updates count before it.
+pub(crate) fn own_numbers(kept: &Kept, after: After, count: u16) -> Own
     requires { kept.now.snapshot + 1 < 2 ^ 64 }
-    ensures { result ≡ own_of (shown kept.now) after }
+    ensures { result ≡ own_with (shown kept.now) after count }
 {
-    let is_update = kept.updates < 500;
+    let is_update = count < 500;
     Own {
         state_epoch: kept.view.state_epoch,
         leader_epoch: kept.view.leader_epoch,
@@ -167,7 +168,7 @@ pub(crate) fn own_numbers(kept: &Kept, after: After) -> Own
         } else {
             kept.snapshot + 1
         },
-        updates: if is_update { kept.updates + 1 } else { 0 },
+        updates: if is_update { count + 1 } else { 0 },
         is_update,
     }
 }
@@ -177,23 +178,23 @@ pub(crate) fn own_frame(
     buffer: Vec<u8>,
     key: &Key,
     own: &Own,
-    given: i64,
+    told: i64,
     written: &Runs,
     rows: &Runs,
 ) -> Vec<u8>
     requires key { IsKey key.now }
     requires epochs { IsEpoch own.now.state_epoch × IsEpoch own.now.leader_epoch }
-    requires starts { IsStart given × IsStart own.now.start }
+    requires starts { IsStart told × IsStart own.now.start }
     requires written { AreStoredRuns written.now.list × (length written.now.list < 2 ^ 32) }
     requires rows { AreStoredRuns rows.now.list × (length rows.now.list < 2 ^ 32) }
-    requires room { length (record_bytes (own_record key.now own.now given written.now.list rows.now.list)) + 5 ≤ vec_capacity buffer }
-    ensures frame { frame_in result.items ≡ record_bytes (own_record key.now own.now given written.now.list rows.now.list) }
-    ensures len { length result.items ≡ length (record_bytes (own_record key.now own.now given written.now.list rows.now.list)) + 5 }
-    ensures valid { IsRecord (own_record key.now own.now given written.now.list rows.now.list) }
+    requires room { length (record_bytes (own_record key.now own.now told written.now.list rows.now.list)) + 5 ≤ vec_capacity buffer }
+    ensures frame { frame_in result.items ≡ record_bytes (own_record key.now own.now told written.now.list rows.now.list) }
+    ensures len { length result.items ≡ length (record_bytes (own_record key.now own.now told written.now.list rows.now.list)) + 5 }
+    ensures valid { IsRecord (own_record key.now own.now told written.now.list rows.now.list) }
     ensures capacity { vec_capacity buffer ≤ vec_capacity result }
 {
     let (start, runs) = if own.is_update {
-        (given, written.list())
+        (told, written.list())
     } else {
         (own.start, rows.list())
     };
@@ -217,6 +218,8 @@ pub(crate) fn own_kept(own: &Own, rows: Runs) -> Kept
       view = record { state_epoch = own.now.state_epoch; leader_epoch = own.now.leader_epoch; start = own.now.start; runs = rows.list };
       snapshot = own.now.snapshot;
       updates = own.now.updates;
+      raised = false;
+      tells = false;
     } }
     ensures room { result.view.room ≡ room_of rows }
 {
@@ -230,6 +233,8 @@ pub(crate) fn own_kept(own: &Own, rows: Runs) -> Kept
         },
         snapshot: own.snapshot,
         updates: own.updates,
+        raised: false,
+        tells: false,
     }
 }
 

@@ -1,4 +1,5 @@
-ghost use Rattle.std.specs.Prelude.{◌≡◌, ◌≢◌, ◌≤◌, ◌<◌, ◌+◌, ◌*◌, ◌^◌, ℕ, List, [], length, vec_capacity, OnOk, OnErr, IsOk, true, false, Some, None, Ok, Err, IsSome, IfOk, IfErr, IfSome, if◌then◌else◌};
+ghost use Rattle.std.specs.Prelude.{◌≡◌, ◌≢◌, ◌≤◌, ◌<◌, ◌+◌, ◌*◌, ◌^◌, ℕ, List, [], length, vec_capacity, OnOk, OnErr};
+ghost use Rattle.std.specs.Prelude.{IsOk, true, false, Some, None, Ok, Err, IsSome, IfOk, IfErr, IfSome, if◌then◌else◌};
 ghost use Rattle.std.specs.declared.option.Option.{Option};
 ghost use Rattle.edge_io.specs.Armed.{RunsOn};
 ghost use Rattle.coord_checkpoint.specs.Disks.{HasFailed};
@@ -6,6 +7,7 @@ ghost use Rattle.coord_checkpoint.specs.Writes.{StaysOn};
 ghost use Rattle.share_coord.specs.Stored.{based, kept_at, kept_left, next_snapshot, snapshot_frames};
 ghost use Rattle.share_coord.specs.Rooms.{HasRoom, IsGranted, IsOwnRecord, IsOwnWritten};
 ghost use Rattle.share_coord.specs.Tables.{found, shown};
+ghost use Rattle.share_coord.specs.Unwritten.{raised_all, raised_entries};
 ghost use Rattle.share_coord.specs.Calls.{Causes, IsInitialised, IsWritten, IsTooMany, IsForgotten, init_refusal, write_refusal};
 ghost use Rattle.share_coord.specs.Holding.{IsHeld, Tidies, WritesOnce, parts_of};
 ghost use Rattle.share_coord.specs.Planning.{GoesOn, IsEither, IsFirst, LeavesPlanned, fresh_kept, left_by, record_of};
@@ -400,6 +402,28 @@ impl<D: Disk> Store<D> {
         renew_where(&mut self.table, checkpointed);
     }
 
+    // Lets the state of a key start at an offset, where it is there and starts below it.
+    pub(crate) fn raise(&mut self, key: &Key, start: i64)
+        requires { HasRoom self.old }
+        ensures entries { self.new.table.entries ≡ raised_entries self.old.table.entries key.now start }
+        ensures journal { self.new.journal ≡ self.old.journal }
+        ensures room { self.new.room ≡ self.old.room }
+        ensures roomy { HasRoom self.new }
+    {
+        self.table.raise(key, start);
+    }
+
+    // The same of each key.
+    pub(crate) fn raise_all(&mut self, start: i64)
+        requires { HasRoom self.old }
+        ensures entries { self.new.table.entries ≡ raised_all start self.old.table.entries }
+        ensures journal { self.new.journal ≡ self.old.journal }
+        ensures room { self.new.room ≡ self.old.room }
+        ensures roomy { HasRoom self.new }
+    {
+        self.table.raise_all(start);
+    }
+
     // Sets memory aside for writes of keys with so many runs.
     pub(crate) fn reserve(&mut self, room: u32) -> Result<(), NoMemory>
         requires { HasRoom self.old }
@@ -446,6 +470,7 @@ impl<D: Disk> Store<D> {
         };
         key_fits(key);
         self.table.ordered();
+        let told = kept.start_told(start);
         let after = lay_write(
             self.alloc,
             kept,
@@ -454,9 +479,10 @@ impl<D: Disk> Store<D> {
             &mut self.written,
             &mut self.laid,
         );
-        let own = own_numbers(kept, after);
+        let count = kept.counted(after.start);
+        let own = own_numbers(kept, after, count);
         let buffer = mem::replace(&mut self.buffer, Vec::new(self.alloc));
-        self.buffer = own_frame(buffer, key, &own, start, &self.written, &self.laid);
+        self.buffer = own_frame(buffer, key, &own, told, &self.written, &self.laid);
         if let Err(fault) = put_framed(&mut self.journal, &mut self.buffer) {
             return Err(fault);
         }

@@ -1,11 +1,12 @@
 // What is kept of all keys.
-ghost use Rattle.std.specs.Prelude.{◌≡◌, ◌⊎◌, ◌≤◌, ◌<◌, ◌^◌, [], length, ℕ, None, true, OnOk, OnErr, IfSome, IsOk, IsSome, is_some, slice_get};
+ghost use Rattle.std.specs.Prelude.{◌≡◌, ◌⊎◌, ◌≤◌, ◌<◌, ◌^◌, [], length, ℕ, None, Some, true, OnOk, OnErr, IfSome, IsOk, IsSome, is_some, slice_get};
 ghost use Rattle.std.specs.List.Sorted.{IsStrictlySortedBy};
 ghost use Rattle.std.specs.Map.{keys_of};
 ghost use Rattle.std.specs.Option.{option_copied, option_map};
 ghost use Rattle.share_model.specs.Keys.{key_cmp};
 ghost use Rattle.share_coord.specs.Stored.{kept_at, renewed, with_kept, without_key};
 ghost use Rattle.share_coord.specs.Tables.{AreRoomy, entries_in, found, shown};
+ghost use Rattle.share_coord.specs.Unwritten.{raised_all, raised_entries, raised_kept};
 
 use crate::view::Kept;
 use share_model::{Key, NoMemory};
@@ -165,6 +166,7 @@ impl Table {
         self.map.retain(|_, kept| {
             kept.snapshot = 0;
             kept.updates = 0;
+            kept.raised = false;
             true
         });
     }
@@ -194,6 +196,34 @@ impl Table {
         }
         self.room = room;
         Ok(())
+    }
+
+    /// Lets the state of a key start at an offset, where it is there and starts below it. It takes no memory.
+    pub fn raise(&mut self, key: &Key, start: i64)
+        ensures entries { self.new.entries ≡ raised_entries self.old.entries key.now start }
+        ensures room { self.new.room ≡ self.old.room }
+    {
+        let Some(kept) = self.map.get_mut(key) else {
+            return;
+        };
+        kept.raise(start);
+    }
+
+    /// Lets the state of each key start at an offset, where it starts below it. It takes no memory.
+    pub fn raise_all(&mut self, start: i64)
+        ensures entries { self.new.entries ≡ raised_all start self.old.entries }
+        ensures room { self.new.room ≡ self.old.room }
+    {
+        self.map.retain(
+            |_, kept|
+                ensures always { result ≡ true }
+                ensures raised { shown kept.new ≡ raised_kept start (shown kept.old) }
+                ensures room { kept.old.view.room ≤ kept.new.view.room }
+            {
+                kept.raise(start);
+                true
+            },
+        );
     }
 
     /// What is kept, with the keys in order.

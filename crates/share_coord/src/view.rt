@@ -1,6 +1,6 @@
 ghost use Rattle.std.specs.Prelude.{◌≡◌, ◌≤◌, OnOk};
 
-use crate::rows::set_room;
+use crate::rows::{canonical, complete_of, cut_at, set_room};
 use offset_runs::Runs;
 use share_model::NoMemory;
 use std::marker::Model;
@@ -38,6 +38,7 @@ impl Model for StateView {
 
 impl StateView {
     ghost use Rattle.offset_runs.specs.Complete.{complete_rows};
+    ghost use Rattle.share_coord.specs.Raising.{raised_to, rises};
     ghost use Rattle.share_coord.specs.Views.{IsKeptState};
 
     /// How many rows are acknowledged or archived.
@@ -63,6 +64,25 @@ impl StateView {
         set_room(&mut self.runs, room)
     }
 
+    /// Lets the state start at an offset, where it starts below it; its rows below that go. It takes no memory. Whether
+    /// it started below.
+    pub fn raise(&mut self, start: i64) -> bool
+        ensures state { self.new.state ≡ raised_to start self.old.state }
+        ensures told { result ≡ rises start self.old.state }
+        ensures room { self.old.room ≤ self.new.room }
+    {
+        let rises = self.start < start;
+        if !rises {
+            return false;
+        }
+        cut_at(&mut self.runs, start);
+        canonical(&self.runs);
+        let complete = complete_of(&self.runs);
+        self.complete = complete;
+        self.start = start;
+        true
+    }
+
     /// The numbers are in their ranges, as those of each state that is kept are.
     pub fn known(&self)
         ensures { IsKeptState self.now.state }
@@ -78,4 +98,49 @@ pub struct Kept {
     pub view: StateView,
     pub snapshot: u64,
     pub updates: u16,
+    /// Whether its start was raised since a record of it was written.
+    pub raised: bool,
+    /// Whether it was since a call stored it: then its next update tells its start.
+    pub tells: bool,
+}
+
+impl Kept {
+    ghost use Rattle.share_coord.specs.Calls.{counted};
+    ghost use Rattle.share_coord.specs.Recorded.{start_told};
+    ghost use Rattle.share_coord.specs.Tables.{shown};
+    ghost use Rattle.share_coord.specs.Unwritten.{raised_kept};
+
+    // The start that its next record tells: that of a key that was raised also where it stays.
+    pub(crate) fn start_told(&self, start: i64) -> i64
+        ensures { result ≡ start_told (shown self.now) start }
+    {
+        if self.tells && start < 0 {
+            return self.view.start;
+        }
+        start
+    }
+
+    // How many updates count before a record that leaves this start. One that lowers a start which was raised since the
+    // last record is a snapshot, since an update would bring back rows that went.
+    pub(crate) fn counted(&self, start: i64) -> u16
+        ensures { result ≡ (counted (shown self.now) start).updates }
+    {
+        if self.raised && start < self.view.start {
+            return 500;
+        }
+        self.updates
+    }
+
+    // Lets its state start at an offset, where it starts below it.
+    pub(crate) fn raise(&mut self, start: i64)
+        ensures kept { shown self.new ≡ raised_kept start (shown self.old) }
+        ensures room { self.old.view.room ≤ self.new.view.room }
+    {
+        let rises = self.view.raise(start);
+        if !rises {
+            return;
+        }
+        self.raised = true;
+        self.tells = true;
+    }
 }

@@ -10,6 +10,9 @@ numbered number = record { 0 = pos number }
 abbrev pub NONE : Code
 NONE = numbered 0
 
+abbrev pub OFFSET_OUT_OF_RANGE : Code
+OFFSET_OUT_OF_RANGE = numbered 1
+
 abbrev pub CORRUPT_MESSAGE : Code
 CORRUPT_MESSAGE = numbered 2
 

@@ -9,6 +9,8 @@ pub struct Code(pub i16);
 impl Code {
     pub const NONE: Code = Code(0);
 
+    pub const OFFSET_OUT_OF_RANGE: Code = Code(1);
+
     pub const CORRUPT_MESSAGE: Code = Code(2);
 
     pub const UNKNOWN_TOPIC_OR_PARTITION: Code = Code(3);
@@ -53,6 +55,7 @@ impl Code {
 /// The constants of `Code` have the numbers of Kafka's list.
 pub fn codes_have_their_numbers()
     ensures none { program.NONE ≡ kafka.NONE }
+    ensures offset_out_of_range { program.OFFSET_OUT_OF_RANGE ≡ kafka.OFFSET_OUT_OF_RANGE }
     ensures corrupt_message { program.CORRUPT_MESSAGE ≡ kafka.CORRUPT_MESSAGE }
     ensures unknown_topic_or_partition { program.UNKNOWN_TOPIC_OR_PARTITION ≡ kafka.UNKNOWN_TOPIC_OR_PARTITION }
     ensures message_too_large { program.MESSAGE_TOO_LARGE ≡ kafka.MESSAGE_TOO_LARGE }

@@ -1,17 +1,20 @@
 -- The acknowledgements of a visit as a step of the shard, and what follows them.
 use Rattle.std.proofs.Common.{◌≡◌, ◌≢◌, ◌⊎◌, ⊎_elim, ◌∙◌, inl, inr, refl, sym, ap, subst, ℕ, max, ◌≤◌, List, Option, Some, None, Bool, true, false, cond}
 use Rattle.std.specs.Prelude.{Result, Ok, Err, IsSome, is_none, is_some}
-use Rattle.std.specs.BTreeMap.{is_at}
+use Rattle.std.specs.BTreeMap.{insert_entry, is_at}
+use Rattle.std.specs.Option.{IfSome, option_map}
 use Rattle.std.specs.Cmp.Lexicographic.{slice_cmp, nat_list_cmp_total}
 use Rattle.std.specs.Ordering.{nat_cmp}
 use Rattle.std.proofs.lemmas.Map.Lookups.{exact_bytes}
-use Rattle.ack_ranges.specs.Batches.{IsWellFormed, kind_at}
+use Rattle.ack_ranges.specs.Batches.{IsWellFormed}
 use Rattle.coord_checkpoint.specs.Disks.{HasFailed}
 use Rattle.edge_io.specs.Causes.{Rose}
 use Rattle.edge_io.specs.Moments.{LeavesPairs}
 use Rattle.flex_fields.specs.declared.fault.NoMemory.{NoMemory as want}
 use Rattle.share_model.specs.ForeignRules.{ShareStates, share_state_at}
 use Rattle.share_model.specs.Held.{Held}
+use Rattle.share_model.specs.Keys.{key_cmp}
+use Rattle.share_model.specs.Pending.{WithPending}
 use Rattle.share_model.specs.ShareStates.{ShareState}
 use Rattle.share_model.specs.declared.ack.AckKind.{AckKind}
 use Rattle.share_model.specs.declared.fault.StoreFault.{StoreFault}
@@ -26,38 +29,44 @@ use Rattle.share_model.specs.declared.visit.Visit.{Visit}
 use Rattle.share_model.specs.declared.visit.VisitAnswer.{VisitAnswer}
 use Rattle.part_log.specs.Logs.{IsStoredLog, log_in}
 use Rattle.part_log.specs.Starts.{LogWrite}
-use Rattle.share_coord.specs.Holding.{IsWithin}
+use Rattle.share_coord.specs.Holding.{IsWithin, StandWith}
 use Rattle.share_coord.specs.Parts.{StoreParts}
 use Rattle.share_coord.specs.Stored.{Entries}
-use Rattle.share_part.specs.Acknowledging.{Acknowledges, AreSettled, AreTheirs, AreWithinAcks, NameNone, NameOne, StoresActs}
+use Rattle.share_coord.specs.Unwritten.{AreLevel}
+use Rattle.share_coord.proofs.Recovered.{recovers}
+use Rattle.share_part.specs.Acknowledging.{Acknowledges, AreSettled, AreStatesFrom, AreTheirs, AreWithinAcks, NameNone, NameOne, StoresActs}
 use Rattle.share_part.specs.Following.{Acquires, Does, Fetches, Follows, HasNothingToWrite, IsEmptyAnswer, MakesTable, releases_of}
 use Rattle.share_part.specs.Failures.{AreQuiet, FailuresRose, RunOnBoth, StarveUnarmed, failures_of}
 use Rattle.share_part.specs.Foreseeing.{with_ack}
-use Rattle.share_part.specs.Hosting.{PartConfParts, AreHosted, IsHosted, key_of}
+use Rattle.share_part.specs.Hosting.{PartConfParts, AreHosted, IsHosted, KeepsHolds, key_of}
 use Rattle.share_coord.specs.States.{states_of}
 use Rattle.share_part.specs.Once.{FollowsOnce, VisitsOnce}
-use Rattle.share_part.specs.Settling.{Acts, AreHeldBy, held_after}
+use Rattle.share_part.specs.Named.{named_from}
+use Rattle.share_part.specs.Settling.{Acts, AreHeldBy, IsSettled, held_after}
 use Rattle.share_part.specs.Shards.{PartShardState, PartParts, Carries, IsStill, IsUntouched, held_in, with_held}
 use Rattle.share_part.specs.Storing.{AcksOnce, IsAcksWritten, SettlesGroup, StoresGroup, WritesWithin}
 use Rattle.share_part.specs.Visits.{AreToWrite, StepsAcks}
 use Rattle.share_part.specs.Writes.{WritesActs, WritesAcks, WritesThen, held_behind, write_outcome}
+use Rattle.share_part.specs.Tables.{table_of}
 use Rattle.share_part.specs.declared.limits.Limits.{Limits}
 use Rattle.share_part.proofs.Failing.{later_both, quiet_same, starve_then, then_starve}
 use Rattle.share_part.proofs.Holding.{AreKept}
 use Rattle.share_part.proofs.Mapping.{at_self}
 use Rattle.share_part.proofs.Parting.{all_pass}
+use Rattle.share_part.proofs.Seeing.{hosted_more, write_level}
+use Rattle.share_part.proofs.Staying.{settled_hosted}
 use Rattle.share_part.proofs.Storage.{behind, stands_same, stands_stored, still, stored_device, stored_quiet, stored_steps, stored_writes}
 use Rattle.share_part.proofs.Stepping.{next, now_settled, now_states}
 use Rattle.share_part.proofs.Visiting.{carried, shard_of}
 use Rattle.edge_io.specs.Views.{DiskView}
 
--- acknowledgements whose write came to the device: they are stored, or it failed
-abbrev pub AreWritten : Visit → AckOutcome → Type 0
-AreWritten visit Done = NameOne (kind_at visit.acks)
-AreWritten visit (Malformed fault) = ⊥
-AreWritten visit (NotHeld offset) = ⊥
-AreWritten visit (Store Device) = Unit {0}
-AreWritten visit (Store (Full end)) = ⊥
+-- acknowledgements whose write came to the device, where the log starts there: they are stored, or it failed
+abbrev pub AreWritten : (start : ℕ) → Visit → AckOutcome → Type 0
+AreWritten start visit Done = NameOne (named_from start visit.acks)
+AreWritten start visit (Malformed fault) = ⊥
+AreWritten start visit (NotHeld offset) = ⊥
+AreWritten start visit (Store Device) = Unit {0}
+AreWritten start visit (Store (Full end)) = ⊥
 
 -- ---- an answer with another outcome of the acknowledgements
 
@@ -96,7 +105,7 @@ module _ {D W : Type 0} (seen : D → DiskView) (holding : W → Held) (visit : 
     (hosted : AreHosted old.conf (log_in old.log) (states_of old.states.entries))
     (kept : AreKept old.conf old.log.batches (states_of old.states.entries) (held_in holding old.windows)) where
   abbrev acts : Acts
-  acts = kind_at visit.acks
+  acts = named_from old.log.start visit.acks
 
   abbrev was : Held
   was = held_in holding old.windows visit.group
@@ -120,7 +129,7 @@ module _ {D W : Type 0} (seen : D → DiskView) (holding : W → Held) (visit : 
   Settles ack = SettlesGroup seen Failed old.conf old.log.batches visit.group visit.member acts was old.states states Same Ends ack
 
   abbrev pub Acked : AckOutcome → Type 0
-  Acked ack = AcksOnce visit.acks ((states ≡ old.states) × Same) Settles ack
+  Acked ack = AcksOnce old.log.start visit.acks ((states ≡ old.states) × Same) Settles ack
 
   -- the same by what was held at first
   abbrev SettlesFrom : (List ℕ → Held) → AckOutcome → Type 0
@@ -129,7 +138,7 @@ module _ {D W : Type 0} (seen : D → DiskView) (holding : W → Held) (visit : 
       ((other : List ℕ) → held_in holding windows other ≡ with_held held visit.group (held_after acts (held visit.group)) other) ack
 
   abbrev pub AckedFrom : (List ℕ → Held) → AckOutcome → Type 0
-  AckedFrom held ack = AcksOnce visit.acks ((states ≡ old.states) × ((other : List ℕ) → held_in holding windows other ≡ held other)) (SettlesFrom held) ack
+  AckedFrom held ack = AcksOnce old.log.start visit.acks ((states ≡ old.states) × ((other : List ℕ) → held_in holding windows other ≡ held other)) (SettlesFrom held) ack
 
   pub acked_from : (held : List ℕ → Held) → ((other : List ℕ) → held other ≡ held_in holding old.windows other) → (ack : AckOutcome) → AckedFrom held ack → Acked ack
   acked_from held same ack h = subst (λ (f : List ℕ → Held). AckedFrom f ack) (λ i group. same group i) h
@@ -182,18 +191,26 @@ module _ {D W : Type 0} (seen : D → DiskView) (holding : W → Held) (visit : 
 
   -- the acts are stored, or aren't
   acts_steps : RunOnBoth seen old.states states → (ack : AckOutcome) (fault : Option StoreFault) → IsWellFormed visit.acks → AreHeldBy visit.member acts was
-      → ((s t : PartShardState) → AreTheirs s visit → StoresActs old.conf Rises old.states.journal.end s visit.group acts t fault → DoesAcks ack s t)
+      → ((s t : PartShardState) → s.log.start ≡ old.log.start → AreTheirs s visit → StoresActs old.conf Rises old.states.journal.end s visit.group acts t fault → DoesAcks ack s t)
       → StoresGroup seen Failed old.conf old.log.batches visit.group acts was old.states states Same Ends fault → AllSteps ack
   acts_steps runs ack fault formed theirs does h s c =
       let st = stored_steps seen holding visit.group acts old states windows old.clock sound few hosted kept runs fault h s c in
       let held : AreHeldBy visit.member acts (s.held visit.group) = subst (AreHeldBy visit.member acts) (sym (c.held visit.group)) theirs in
-      (st.then, st.carries, record { log = st.log; clock = st.clock_is ∙ sym (clock_is s c); does = does s st.then (formed, held) st.does })
+      let named : AreHeldBy visit.member (named_from s.log.start visit.acks) (s.held visit.group) =
+      subst (λ (n : ℕ). AreHeldBy visit.member (named_from n visit.acks) (s.held visit.group)) (sym c.log.start) held in
+      (st.then, st.carries, record { log = st.log; clock = st.clock_is ∙ sym (clock_is s c); does = does s st.then c.log.start (formed, named) st.does })
+
+  -- the shard's log starts where the store's does
+  on_start : (s t : PartShardState) (fault : Option StoreFault) → s.log.start ≡ old.log.start
+      → StoresActs old.conf Rises old.states.journal.end s visit.group acts t fault
+      → StoresActs old.conf Rises old.states.journal.end s visit.group (named_from s.log.start visit.acks) t fault
+  on_start s t fault same stores = subst (λ (n : ℕ). StoresActs old.conf Rises old.states.journal.end s visit.group (named_from n visit.acks) t fault) (sym same) stores
 
   settled_steps : RunOnBoth seen old.states states → (ack : AckOutcome) → IsWellFormed visit.acks → Settles ack → AllSteps ack
   settled_steps runs (NotHeld o) formed h = unmoved (NotHeld o) h.1 h.2 (λ batch pending. (formed, h.0, record { states = refl; pending = refl; held = refl }))
   settled_steps runs (Malformed f) formed h = absurd h
-  settled_steps runs Done formed h = acts_steps runs Done None formed h.0 (λ s t theirs stores. (theirs, stores)) h.1
-  settled_steps runs (Store fault) formed h = acts_steps runs (Store fault) (Some fault) formed h.0 (λ s t theirs stores. (theirs, stores)) h.1
+  settled_steps runs Done formed h = acts_steps runs Done None formed h.0 (λ s t same theirs stores. (theirs, on_start s t None same stores)) h.1
+  settled_steps runs (Store fault) formed h = acts_steps runs (Store fault) (Some fault) formed h.0 (λ s t same theirs stores. (theirs, on_start s t (Some fault) same stores)) h.1
 
   none_stored : (s t : PartShardState) → NameNone acts → IsStill s t → AreTheirs s visit → StoresActs old.conf Rises old.states.journal.end s visit.group acts t None
   none_stored s t none is theirs = inl (none, is)
@@ -224,18 +241,19 @@ module _ {D W : Type 0} (seen : D → DiskView) (holding : W → Held) (visit : 
   unwritten r h = carried seen holding old (λ s. (AreToWrite s visit → ⊥) → states ≡ old.states) (λ batch pending k nothing. none_written r h batch pending nothing)
 
   -- nor does the shard change then
-  acts_still : (s t : PartShardState) (fault : Option StoreFault) → StoresActs old.conf Rises old.states.journal.end s visit.group acts t fault
-      → (NameOne acts → ⊥) → IsStill s t
-  acts_still s t None (inl h) none = h.1
-  acts_still s t None (inr h) none = absurd (none h.0)
-  acts_still s t (Some Device) h none = absurd (none h.0)
-  acts_still s t (Some (Full at)) h none = absurd (none h.0)
+  acts_still : (n : ℕ) (s t : PartShardState) (fault : Option StoreFault)
+      → StoresActs old.conf Rises old.states.journal.end s visit.group (named_from n visit.acks) t fault
+      → (NameOne (named_from n visit.acks) → ⊥) → IsStill s t
+  acts_still n s t None (inl h) none = h.1
+  acts_still n s t None (inr h) none = absurd (none h.0)
+  acts_still n s t (Some Device) h none = absurd (none h.0)
+  acts_still n s t (Some (Full at)) h none = absurd (none h.0)
 
   acks_still : (ack : AckOutcome) (s t : PartShardState) → DoesAcks ack s t → (AreToWrite s visit → ⊥) → IsStill s t
   acks_still (Malformed f) s t h nothing = h.1
   acks_still (NotHeld o) s t h nothing = h.2
-  acks_still Done s t h nothing = acts_still s t None h.1 (λ named. nothing (h.0, named))
-  acks_still (Store fault) s t h nothing = acts_still s t (Some fault) h.1 (λ named. nothing (h.0, named))
+  acks_still Done s t h nothing = acts_still s.log.start s t None h.1 (λ named. nothing (h.0, named))
+  acks_still (Store fault) s t h nothing = acts_still s.log.start s t (Some fault) h.1 (λ named. nothing (h.0, named))
 
   -- a device fault
   abbrev Starves : Type 0
@@ -273,7 +291,7 @@ module _ {D W : Type 0} (seen : D → DiskView) (holding : W → Held) (visit : 
 
   -- which record is stored
   abbrev Writes : AckOutcome → Type 0
-  Writes ack = WritesAcks seen old.conf old.log.batches visit was old.states states ack
+  Writes ack = WritesAcks seen old.conf (log_in old.log) visit was old.states states ack
 
   writes_stored : (fault : Option StoreFault) → StoresGroup seen Failed old.conf old.log.batches visit.group acts was old.states states Same Ends fault
       → WritesActs seen old.conf old.log.batches visit.group acts was old.states states fault
@@ -292,7 +310,7 @@ module _ {D W : Type 0} (seen : D → DiskView) (holding : W → Held) (visit : 
 
   -- what is held behind them
   abbrev Holds : AckOutcome → Type 0
-  Holds ack = held_in holding windows visit.group ≡ held_behind visit was ack
+  Holds ack = held_in holding windows visit.group ≡ held_behind old.log.start visit was ack
 
   none_end : NameNone acts → Same → held_in holding windows visit.group ≡ held_after acts was
   none_end none same = same visit.group ∙ sym (all_pass (λ e. is_none (acts e.0)) was (λ e. ap is_none (none e.0)))
@@ -321,21 +339,21 @@ module _ {D W : Type 0} (seen : D → DiskView) (holding : W → Held) (visit : 
   pub none_named : NameNone acts → NameOne acts → ⊥
   none_named none one = none_some (acts one.0) (none one.0) one.1
 
-  table_settled : (ack : AckOutcome) → Settles ack → AreWritten visit ack → HasTable
+  table_settled : (ack : AckOutcome) → Settles ack → AreWritten old.log.start visit ack → HasTable
   table_settled (NotHeld o) h written = absurd written
   table_settled (Malformed f) h written = absurd h
   table_settled Done h written = ⊎_elim (λ n. absurd (none_named n.0 written)) (λ g. (g.1.state, g.1.known)) h.1
   table_settled (Store Device) h written = (h.1.1.state, h.1.1.known)
   table_settled (Store (Full at)) h written = absurd written
 
-  pub table_there : (ack : AckOutcome) → Acked ack → AreWritten visit ack → HasTable
-  table_there ack (inl m) written = absurd (subst (AreWritten visit) m.1 written)
-  table_there ack (inr (inl n)) written = absurd (none_named n.1 (subst (AreWritten visit) n.2 written))
+  pub table_there : (ack : AckOutcome) → Acked ack → AreWritten old.log.start visit ack → HasTable
+  table_there ack (inl m) written = absurd (subst (AreWritten old.log.start visit) m.1 written)
+  table_there ack (inr (inl n)) written = absurd (none_named n.1 (subst (AreWritten old.log.start visit) n.2 written))
   table_there ack (inr (inr g)) written = table_settled ack g.2 written
 
   -- they are not written for a group without a table
   pub unheld_by : (ack : AckOutcome) → Acked ack → share_state_at (states_of old.states.entries) (key_of old.conf visit.group) ≡ None
-      → AreWritten visit ack → ⊥
+      → AreWritten old.log.start visit ack → ⊥
   unheld_by ack h none written =
       let t = table_there ack h written in
       let never : ◌≡◌ {A = Option ShareState} None (Some t.0) = sym none ∙ t.1 in
@@ -347,14 +365,14 @@ module _ {D W : Type 0} (seen : D → DiskView) (holding : W → Held) (visit : 
   same_all is same = record { conf = refl; log = refl; states = is; clock = refl; held = same }
 
   -- where their write didn't come to the device
-  back_settled : (ack : AckOutcome) → Settles ack → (AreWritten visit ack → ⊥) → IsUntouched holding old mid
+  back_settled : (ack : AckOutcome) → Settles ack → (AreWritten old.log.start visit ack → ⊥) → IsUntouched holding old mid
   back_settled (NotHeld o) h none = same_all h.1 h.2
   back_settled (Malformed f) h none = absurd h
   back_settled Done h none = ⊎_elim (λ n. same_all n.1 n.2) (λ g. absurd (none g.0)) h.1
   back_settled (Store Device) h none = absurd (none tt)
   back_settled (Store (Full at)) h none = same_all (h.1.1.once.unchanged (λ e. let clash : ⊥ = cc in clash)) h.1.2
 
-  pub back : (ack : AckOutcome) → Acked ack → (AreWritten visit ack → ⊥) → IsUntouched holding old mid
+  pub back : (ack : AckOutcome) → Acked ack → (AreWritten old.log.start visit ack → ⊥) → IsUntouched holding old mid
   back ack (inl m) none = same_all m.3.0 m.3.1
   back ack (inr (inl n)) none = same_all n.3.0 n.3.1
   back ack (inr (inr g)) none = back_settled ack g.2 none
@@ -362,23 +380,55 @@ module _ {D W : Type 0} (seen : D → DiskView) (holding : W → Held) (visit : 
   -- ---- the moments of their write, where no checkpoint is tried before it
 
   abbrev Written : Entries → Type 0
-  Written es = IsAcksWritten old.conf old.log.batches visit.group visit.member visit.acks was old.states.entries es
+  Written es = IsAcksWritten old.conf (log_in old.log) visit.group visit.member visit.acks was old.states.entries es
 
-  written_settled : (batch : Option LogWrite) (pending : Option Entries) (es : Entries) → Written es
-      → AreSettled old.conf (shard_of seen holding old batch pending) visit.group acts (states_of es)
-  written_settled batch pending es w =
-      let its : IsHosted old.conf (log_in old.log) (key_of old.conf visit.group) w.state = hosted (key_of old.conf visit.group) w.state w.known in record {
-        state = w.state;
-        next = next old.conf old.log.batches old.states.entries es visit.group w.state was acts w.change its w.known w.is w.stored;
-        known = w.known;
-        settled = now_settled old.conf old.log.batches old.states.entries es visit.group w.state was acts w.change its w.known w.is w.stored;
-        is = now_states old.conf old.log.batches old.states.entries es visit.group w.state was acts w.change its w.known w.is w.stored;
-      }
+  abbrev Found : List ℕ → List ℕ → ShareStates → Type 0
+  Found a b states = AreStatesFrom old.log.start a b states
 
-  found_within : (batch : Option LogWrite) (pending : Option Entries) (a b : List ℕ) → IsWithin Written old.states.entries pending a b
+  module _ (es : Entries) (w : Written es) where
+    its_hosted : IsHosted old.conf (log_in old.log) (key_of old.conf visit.group) w.state
+    its_hosted = hosted (key_of old.conf visit.group) w.state w.known
+
+    its_kept : KeepsHolds old.log.batches (Some w.state) was
+    its_kept = subst (λ (o : Option ShareState). KeepsHolds old.log.batches o was) w.known (kept visit.group)
+
+    abbrev its_next : ShareState
+    its_next = next old.conf old.log.batches old.states.entries es visit.group w.state was acts w.change its_hosted w.known w.is w.stored
+
+    its_settled : IsSettled old.conf.limit acts old.log.batches (table_of w.state was) its_next
+    its_settled = now_settled old.conf old.log.batches old.states.entries es visit.group w.state was acts w.change its_hosted w.known w.is w.stored
+
+    its_states : states_of es ≡ insert_entry key_cmp (states_of old.states.entries) (key_of old.conf visit.group) its_next
+    its_states = now_states old.conf old.log.batches old.states.entries es visit.group w.state was acts w.change its_hosted w.known w.is w.stored
+
+    set_hosted : AreHosted old.conf (log_in old.log) (states_of es)
+    set_hosted = subst (AreHosted old.conf (log_in old.log)) (sym its_states) (hosted_more old.conf (log_in old.log) (states_of old.states.entries) (key_of old.conf visit.group) its_next hosted
+        (settled_hosted old.conf old.log.batches visit.group w.state was acts sound.rises few its_hosted its_kept.0 its_next its_settled))
+
+    set_level : AreLevel old.log.start old.states.entries → AreLevel old.log.start es
+    set_level h = write_level old.conf (log_in old.log) old.states.entries es w.stored.checkpointed (key_of old.conf visit.group) _ w.stored.is refl set_hosted h
+
+    written_settled : (batch : Option LogWrite) (pending : Option Entries) → AreSettled old.conf (shard_of seen holding old batch pending) visit.group acts (states_of es)
+    written_settled batch pending = record { state = w.state; next = its_next; known = w.known; settled = its_settled; is = its_states }
+
+  -- what stood at entry
+  found_before : (pending : Option Entries) (a b : List ℕ) → AreLevel old.log.start old.states.entries → IfSome pending (AreLevel old.log.start)
+      → StandWith a b old.states.entries pending → WithPending (Found a b) (states_of old.states.entries) (option_map states_of pending)
+  found_before None a b level pending_level stands = recovers a b old.log.start old.states.entries stands level
+  found_before (Some lost) a b level pending_level stands = ⊎_elim
+      (λ x. inl (recovers a b old.log.start old.states.entries x level))
+      (λ x. inr (recovers a b old.log.start lost x pending_level)) stands
+
+  found_within : (batch : Option LogWrite) (pending : Option Entries) (a b : List ℕ) → AreLevel old.log.start old.states.entries
+      → IfSome pending (AreLevel old.log.start) → IsWithin Written old.states.entries pending a b
       → AreWithinAcks old.conf (shard_of seen holding old batch pending) visit a b
-  found_within batch pending a b (inl stands) = inl stands
-  found_within batch pending a b (inr w) = inr (states_of w.0, (w.1.formed, w.1.theirs), written_settled batch pending w.0 w.1, w.2)
+  found_within batch pending a b level pending_level (inl stands) = inl (found_before pending a b level pending_level stands)
+  found_within batch pending a b level pending_level (inr w) = inr (
+    states_of w.0,
+    (w.1.formed, w.1.theirs),
+    written_settled w.0 w.1 batch pending,
+    recovers a b old.log.start w.0 w.2 (set_level w.0 w.1 level),
+  )
 
   abbrev Moments : PartShardState → Type 0
   Moments s = LeavesPairs seen old.states.journal.first.disk states.journal.first.disk old.states.journal.second.disk states.journal.second.disk
@@ -389,7 +439,7 @@ module _ {D W : Type 0} (seen : D → DiskView) (holding : W → Held) (visit : 
       let m = within pending k.holds in record {
         later_a = m.later_a;
         later_b = m.later_b;
-        each = λ a b left right. found_within batch pending a b (m.each a b left right);
+        each = λ a b left right. found_within batch pending a b k.level k.pending_level (m.each a b left right);
       })
 
   -- ---- what follows
@@ -460,7 +510,7 @@ module _ {D W : Type 0} (seen : D → DiskView) (holding : W → Held) (visit : 
 
     -- no memory was found behind them, where they were not written
     pub unfollowed : (e : want) (done : Result VisitAnswer want) → done ≡ Err e
-        → FollowsOnce seen holding now visit mid new done → (AreWritten visit ack → ⊥) → (f : want) → VisitsOnce seen holding now visit old new (Err f)
+        → FollowsOnce seen holding now visit mid new done → (AreWritten old.log.start visit ack → ⊥) → (f : want) → VisitsOnce seen holding now visit old new (Err f)
     unfollowed e done is once none f =
         let o = subst (FollowsOnce seen holding now visit mid new) is once in
         let b = back ack acked none in

@@ -1,7 +1,6 @@
 -- A fetch that was ready before the acknowledgements before it were stored: which plan it goes by.
 use Rattle.std.proofs.Common.{◌≡◌, ⊎_elim, ◌∙◌, inl, inr, refl, sym, ap, subst, ℕ, ◌≤◌, List, Option, Some, None, true, false}
 use Rattle.std.specs.Prelude.{Result, Ok, Err, IsErr, IsSome, unwrap_or}
-use Rattle.ack_ranges.specs.Batches.{kind_at}
 use Rattle.coord_checkpoint.specs.Disks.{HasFailed}
 use Rattle.edge_io.specs.Views.{DiskView}
 use Rattle.flex_fields.specs.declared.fault.NoMemory.{NoMemory as want}
@@ -27,6 +26,7 @@ use Rattle.share_part.specs.Collecting.{IsPlanOf}
 use Rattle.share_part.specs.Foreseeing.{IsPlanBehind, JudgesAcks, MovesBy}
 use Rattle.share_part.specs.Hosting.{AreHosted, PartConfParts, key_of}
 use Rattle.share_part.specs.Making.{MakesTableOnce, state_for}
+use Rattle.share_part.specs.Named.{named_from}
 use Rattle.share_part.specs.Once.{ReadsBatches, VisitsOnce}
 use Rattle.share_part.specs.Settling.{AreHeldBy, Change, IsChange, change_of, held_after}
 use Rattle.share_part.specs.Shards.{PartParts, held_in, new_state, with_held}
@@ -102,64 +102,64 @@ module _ {D W : Type 0} (seen : D → DiskView) (holding : W → Held) (visit : 
       (subst (λ (s : ShareState). IsPlanOf old.log.batches stays (acquired old.log.batches (table_of s was) limits)) at first)))
 
   abbrev Stored : Type 0
-  Stored = IsActsStored seen (HasFailed seen) old.conf old.log.batches visit.group (kind_at visit.acks) was old.states states None
+  Stored = IsActsStored seen (HasFailed seen) old.conf old.log.batches visit.group (named_from old.log.start visit.acks) was old.states states None
 
   -- a change was
   goes_moved : (st : Stored) (change : Change) (plan : Plan) → (found : (state : ShareState) × (share_state_at (states_of old.states.entries) key ≡ Some state)
-      × IsChange old.conf.limit (kind_at visit.acks) old.log.batches (table_of state was) change)
-      → IsPlanBehind old.conf.limit (kind_at visit.acks) old.log.batches First change limits plan → now ≡ held_after (kind_at visit.acks) was → GoesBy plan
+      × IsChange old.conf.limit (named_from old.log.start visit.acks) old.log.batches (table_of state was) change)
+      → IsPlanBehind old.conf.limit (named_from old.log.start visit.acks) old.log.batches First change limits plan → now ≡ held_after (named_from old.log.start visit.acks) was → GoesBy plan
   goes_moved st change plan found behind held =
-      let next = its_next seen holding visit.group (kind_at visit.acks) old states windows old.clock sound few hosted kept None st states.entries st.once.written in
-      let settled = its_settled seen holding visit.group (kind_at visit.acks) old states windows old.clock sound few hosted kept None st states.entries st.once.written in
-      let is = its_states seen holding visit.group (kind_at visit.acks) old states windows old.clock sound few hosted kept None st states.entries st.once.written in
+      let next = its_next seen holding visit.group (named_from old.log.start visit.acks) old states windows old.clock sound few hosted kept None st states.entries st.once.written in
+      let settled = its_settled seen holding visit.group (named_from old.log.start visit.acks) old states windows old.clock sound few hosted kept None st states.entries st.once.written in
+      let is = its_states seen holding visit.group (named_from old.log.start visit.acks) old states windows old.clock sound few hosted kept None st states.entries st.once.written in
       let first : First ≡ table_of st.state was = ap (λ (o : Option ShareState). table_of (unwrap_or o (new_state old.conf (log_in old.log))) was) st.known in
       let other : First ≡ table_of found.0 was = ap (λ (o : Option ShareState). table_of (unwrap_or o (new_state old.conf (log_in old.log))) was) found.1 in
-      let change_is = subst (λ (t : Table). IsChange old.conf.limit (kind_at visit.acks) old.log.batches t change) (sym other) found.2 in
-      let left = left_settled old.conf.limit (kind_at visit.acks) old.log.batches (table_of st.state was) change next
-      (subst (λ (t : Table). IsChange old.conf.limit (kind_at visit.acks) old.log.batches t change) first change_is) settled in
-      let planned = subst (λ (t : Table). IsPlanBehind old.conf.limit (kind_at visit.acks) old.log.batches t change limits plan) first behind in
+      let change_is = subst (λ (t : Table). IsChange old.conf.limit (named_from old.log.start visit.acks) old.log.batches t change) (sym other) found.2 in
+      let left = left_settled old.conf.limit (named_from old.log.start visit.acks) old.log.batches (table_of st.state was) change next
+      (subst (λ (t : Table). IsChange old.conf.limit (named_from old.log.start visit.acks) old.log.batches t change) first change_is) settled in
+      let planned = subst (λ (t : Table). IsPlanBehind old.conf.limit (named_from old.log.start visit.acks) old.log.batches t change limits plan) first behind in
       goes_with plan next (ap (λ (s : ShareStates). share_state_at s key) is ∙ set_found key_cmp keys_total keys_exact key next (states_of old.states.entries))
       (subst (λ (h : Held). IsPlanOf old.log.batches plan (acquired old.log.batches (table_of next h) limits)) (sym held) (planned next left))
 
   -- ---- by the answer
 
-  module _ (judged : JudgesAcks old.conf.limit visit old.log.batches was (share_state_at (states_of old.states.entries) key) rows acks)
+  module _ (judged : JudgesAcks old.conf.limit old.log.start visit old.log.batches was (share_state_at (states_of old.states.entries) key) rows acks)
       (is_stays : IsPlanOf old.log.batches stays (acquired old.log.batches First limits))
-      (is_moves : MovesBy old.conf.limit visit old.log.batches First limits rows acks moves) (plan : Plan) where
+      (is_moves : MovesBy old.conf.limit old.log.start visit old.log.batches First limits rows acks moves) (plan : Plan) where
     -- nothing to store
-    none_moves : (a : Acks) (m : Option Plan) → JudgesAcks old.conf.limit visit old.log.batches was (share_state_at (states_of old.states.entries) key) rows a
-        → MovesBy old.conf.limit visit old.log.batches First limits rows a m → NameNone (kind_at visit.acks) → m ≡ None
+    none_moves : (a : Acks) (m : Option Plan) → JudgesAcks old.conf.limit old.log.start visit old.log.batches was (share_state_at (states_of old.states.entries) key) rows a
+        → MovesBy old.conf.limit old.log.start visit old.log.batches First limits rows a m → NameNone (named_from old.log.start visit.acks) → m ≡ None
     none_moves (malformed f) m j is none = is
     none_moves Empty m j is none = is
     none_moves (not_held o) m j is none = is
     none_moves (Changes moved) m j is none = absurd (none_named seen holding visit old states windows sound few hosted kept none j.1)
 
-    not_both : (least : ℕ) → AreHeldBy visit.member (kind_at visit.acks) was → (a : Acks) → a ≡ not_held least
-        → JudgesAcks old.conf.limit visit old.log.batches was (share_state_at (states_of old.states.entries) key) rows (not_held least) → ⊥
+    not_both : (least : ℕ) → AreHeldBy visit.member (named_from old.log.start visit.acks) was → (a : Acks) → a ≡ not_held least
+        → JudgesAcks old.conf.limit old.log.start visit old.log.batches was (share_state_at (states_of old.states.entries) key) rows (not_held least) → ⊥
     not_both least theirs a is j = j.2.missing (theirs least j.2.named)
 
-    done_moves : (a : Acks) (m : Option Plan) → JudgesAcks old.conf.limit visit old.log.batches was (share_state_at (states_of old.states.entries) key) rows a
-        → MovesBy old.conf.limit visit old.log.batches First limits rows a m → ((fault : AckFault) → a ≡ malformed fault → ⊥) → AreHeldBy visit.member (kind_at visit.acks) was
-        → NameOne (kind_at visit.acks) → Stored → plan ≡ unwrap_or m stays → now ≡ held_after (kind_at visit.acks) was → GoesBy plan
+    done_moves : (a : Acks) (m : Option Plan) → JudgesAcks old.conf.limit old.log.start visit old.log.batches was (share_state_at (states_of old.states.entries) key) rows a
+        → MovesBy old.conf.limit old.log.start visit old.log.batches First limits rows a m → ((fault : AckFault) → a ≡ malformed fault → ⊥) → AreHeldBy visit.member (named_from old.log.start visit.acks) was
+        → NameOne (named_from old.log.start visit.acks) → Stored → plan ≡ unwrap_or m stays → now ≡ held_after (named_from old.log.start visit.acks) was → GoesBy plan
     done_moves (malformed f) m j is formed theirs one st at held = absurd (formed f refl)
     done_moves Empty m j is formed theirs one st at held = absurd (none_named seen holding visit old states windows sound few hosted kept j.1 one)
     done_moves (not_held o) m j is formed theirs one st at held = absurd (not_both o theirs (not_held o) refl j)
     done_moves (Changes moved) None j is formed theirs one st at held = absurd is
     done_moves (Changes moved) (Some its) j is formed theirs one st at held =
-        goes_moved st (change_of moved rows) plan j.3 (subst (IsPlanBehind old.conf.limit (kind_at visit.acks) old.log.batches First (change_of moved rows) limits) (sym at) is) held
+        goes_moved st (change_of moved rows) plan j.3 (subst (IsPlanBehind old.conf.limit (named_from old.log.start visit.acks) old.log.batches First (change_of moved rows) limits) (sym at) is) held
 
     module _ (ack : AckOutcome) (acked : Acked seen holding visit old states windows sound few hosted kept ack)
         (formed : (fault : AckFault) → acks ≡ malformed fault → ack ≡ Malformed fault) (done : ack ≡ Done → plan ≡ unwrap_or moves stays)
         (others : (ack ≡ Done → ⊥) → plan ≡ stays) where
-      by_none : ack ≡ Done → NameNone (kind_at visit.acks) → plan ≡ stays
+      by_none : ack ≡ Done → NameNone (named_from old.log.start visit.acks) → plan ≡ stays
       by_none is none = done is ∙ ap (λ (m : Option Plan). unwrap_or m stays) (none_moves acks moves judged is_moves none)
 
       abbrev Group : AckOutcome → Type 0
-      Group a = SettlesGroup seen (HasFailed seen) old.conf old.log.batches visit.group visit.member (kind_at visit.acks) was old.states states
+      Group a = SettlesGroup seen (HasFailed seen) old.conf old.log.batches visit.group visit.member (named_from old.log.start visit.acks) was old.states states
           ((other : List ℕ) → held_in holding windows other ≡ held_in holding old.windows other)
-          ((other : List ℕ) → held_in holding windows other ≡ with_held (held_in holding old.windows) visit.group (held_after (kind_at visit.acks) was) other) a
+          ((other : List ℕ) → held_in holding windows other ≡ with_held (held_in holding old.windows) visit.group (held_after (named_from old.log.start visit.acks) was) other) a
 
-      by_settled : (a : AckOutcome) → ack ≡ a → NameOne (kind_at visit.acks) → Group a → (a ≡ Done → now ≡ held_after (kind_at visit.acks) was) → GoesBy plan
+      by_settled : (a : AckOutcome) → ack ≡ a → NameOne (named_from old.log.start visit.acks) → Group a → (a ≡ Done → now ≡ held_after (named_from old.log.start visit.acks) was) → GoesBy plan
       by_settled (NotHeld o) is one g held = goes_still is_stays plan (others (λ e. let never : NotHeld o ≡ Done = sym is ∙ e in let clash : ⊥ = cc in clash)) (ap (λ (s : StoreParts D). states_of s.entries) g.1) (g.2 visit.group)
       by_settled (Malformed f) is one g held = absurd g
       by_settled (Store fault) is one g held = goes_still is_stays plan (others (λ e. let never : Store fault ≡ Done = sym is ∙ e in let clash : ⊥ = cc in clash)) g.1.1.once.same (g.1.2 visit.group)
@@ -172,7 +172,7 @@ module _ {D W : Type 0} (seen : D → DiskView) (holding : W → Held) (visit : 
       by_acked (inl m) = goes_still is_stays plan (others (λ e. let never : Malformed m.0 ≡ Done = sym m.1 ∙ e in let clash : ⊥ = cc in clash))
           (ap (λ (s : StoreParts D). states_of s.entries) m.3.0) (m.3.1 visit.group)
       by_acked (inr (inl n)) = goes_still is_stays plan (by_none n.2 n.1) (ap (λ (s : StoreParts D). states_of s.entries) n.3.0) (n.3.1 visit.group)
-      by_acked (inr (inr g)) = by_settled ack refl g.1 g.2 (λ e. holds_acked seen holding visit old states windows sound few hosted kept ack (inr (inr g)) ∙ ap (held_behind visit was) e)
+      by_acked (inr (inr g)) = by_settled ack refl g.1 g.2 (λ e. holds_acked seen holding visit old states windows sound few hosted kept ack (inr (inr g)) ∙ ap (held_behind old.log.start visit was) e)
 
       pub goes_by : GoesBy plan
       goes_by = by_acked acked

@@ -8,14 +8,12 @@ use Rattle.std.specs.BTreeMap.{is_at}
 use Rattle.std.specs.Cmp.Lexicographic.{slice_cmp, nat_list_cmp_total}
 use Rattle.std.specs.Ordering.{nat_cmp}
 use Rattle.std.proofs.lemmas.Map.Lookups.{exact_bytes}
-use Rattle.ack_ranges.specs.Batches.{kind_at}
-use Rattle.ack_ranges.specs.Pieces.{ArePieces, Follows, IsCanonical, piece_at}
+use Rattle.ack_ranges.specs.Pieces.{Follows, IsCanonical, piece_at}
 use Rattle.ack_ranges.specs.declared.piece.Piece.{Piece}
 use Rattle.ack_ranges.proofs.Looks.{here, beyond, begins_at}
 use Rattle.offset_runs.specs.Changes.{PutsRange, CutsBelow}
 use Rattle.share_model.specs.Held.{Held, hold_at}
 use Rattle.share_model.specs.Runs.{row_at, row_of, IsCanonical as AreCanonical}
-use Rattle.share_model.specs.declared.ack.AckBatch.{AckBatch}
 use Rattle.share_model.specs.declared.ack.AckKind.{AckKind}
 use Rattle.share_model.specs.declared.hold.Hold.{Hold}
 use Rattle.share_model.specs.declared.row.Row.{Row}
@@ -250,10 +248,6 @@ pub ended : (limit : ℕ) (member : List ℕ) (acts : Acts) (held : Held) (rows 
     → AreDone limit member acts held rows
 ended limit member acts held rows None is ends = ends
 ended limit member acts held rows (Some least) is ends = absurd (let clash : ⊥ = cc in clash)
-
--- the pieces say what the batches do
-pub agreed : (batches : List AckBatch) (pieces : List Piece) → ArePieces batches pieces → piece_at pieces ≡ kind_at batches
-agreed batches pieces are = λ i. λ o. are.same o i
 
 -- ---- releases
 

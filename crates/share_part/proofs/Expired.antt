@@ -1,14 +1,16 @@
 -- An expiry of a shard in memory: what holds once some of the due groups are done.
-use Rattle.std.proofs.Common.{◌≡◌, ◌⊎◌, ⊎_elim, ◌∙◌, inl, inr, refl, sym, ap, subst, arith, ℕ, zero, suc, max, min, ◌+◌, ◌-◌, ◌^◌, ◌<◌, ◌≤◌, List, [], ◌∷◌, ◌++◌, append_assoc, length, drop, get_or, drop-cons, add-one, Option, Some, None, Bool, false}
-use Rattle.std.proofs.lemmas.Bool.{cases_lt}
+use Rattle.std.proofs.Common.{◌≡◌, ◌⊎◌, ◌∙◌, inl, inr, refl, sym, ap, subst, arith, ℕ, zero, suc, max, min, ◌+◌, ◌-◌, ◌^◌, ◌<◌, ◌≤◌, List, [], ◌∷◌, ◌++◌, append_assoc, length, drop, get_or, drop-cons, add-one, Option, Some, None, Bool, false}
 use Rattle.std.specs.Prelude.{filter, Result, Ok, Err, IsErr, if◌then◌else◌}
 use Rattle.std.specs.BTreeMap.{is_at}
 use Rattle.std.specs.Cmp.Lexicographic.{slice_cmp}
 use Rattle.std.specs.List.{AllByRecursion}
+use Rattle.std.specs.List.Sorted.{IsStrictlySortedBy}
 use Rattle.std.specs.Map.{keys_of}
 use Rattle.std.specs.Ordering.{nat_cmp}
 use Rattle.flex_fields.specs.declared.fault.NoMemory.{NoMemory as want}
+use Rattle.share_model.specs.Keys.{KeyParts, key_cmp}
 use Rattle.share_coord.specs.Parts.{StoreParts}
+use Rattle.share_coord.proofs.Unwritten.{keys_same}
 use Rattle.part_log.specs.Logs.{LogParts, log_in}
 use Rattle.share_model.specs.Held.{Held}
 use Rattle.share_model.specs.Logs.{Batch}
@@ -97,7 +99,8 @@ module _ {D W : Type 0} (seen : D → DiskView) (holding : W → Held) (now : �
     within = omega arith;
     few = omega arith;
     steps = λ s c.
-        let by_key = entries_sorted _ entry.states.entries c.holds.taken in
+        let by_key = subst (λ (l : List KeyParts). IsStrictlySortedBy key_cmp l) (keys_same c.holds.written entry.states.entries c.holds.kept)
+        (entries_sorted _ c.holds.written c.holds.taken) in
         record {
           shard = s;
           carries = c;
@@ -309,7 +312,8 @@ module _ {D W : Type 0} (seen : D → DiskView) (holding : W → Held) (now : �
               clock = f.clock_is;
               hosted = f.carries.hosted;
               pending_hosted = f.carries.pending_hosted;
-              unmarked = f.carries.unmarked;
+              level = f.carries.level;
+              pending_level = f.carries.pending_level;
             },
             record {
               clock = f.clock_is ∙ ap (λ (n : ℕ). max n now) (sym c.clock);

@@ -251,7 +251,7 @@ none_is : (a : Option AckKind) → is_none a ≡ true → a ≡ None
 none_is None e = refl
 none_is (Some kind) e = absurd (let clash : ⊥ = cc in clash)
 
-left_held : (acts : Acts) (held : Held) (o : ℕ) (hold : Hold) → hold_at (held_after acts held) o ≡ Some hold → (hold_at held o ≡ Some hold) × (acts o ≡ None)
+pub left_held : (acts : Acts) (held : Held) (o : ℕ) (hold : Hold) → hold_at (held_after acts held) o ≡ Some hold → (hold_at held o ≡ Some hold) × (acts o ≡ None)
 left_held acts [] o hold at = absurd (let clash : ⊥ = cc in clash)
 left_held acts (e ∷ held) o hold at = by_tests (is_none (acts e.0)) refl (is_at (nat_cmp o) e.0) refl at (left_held acts held o hold)
   where

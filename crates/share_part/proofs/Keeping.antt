@@ -76,6 +76,7 @@ module _ (es : Entries) (key : KeyParts) (start : Option ℕ) (number : ℤ) (ru
       written = on_ok done (own_written new.entries) w.written;
       kept = w.kept;
       same = w.same;
+      left = w.left;
       unchanged = w.unchanged;
       failed = on_err done (λ f pending holds. ⊎_elim (λ still. inl still) (λ lost. inr (lost.0, own_written lost.0 lost.1, lost.2)) (f pending holds)) w.failed;
       device = λ e. let d = w.device e in (d.0, (d.1.0, own_written d.1.0 d.1.1));

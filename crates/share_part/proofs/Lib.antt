@@ -15,7 +15,9 @@ pub mod Seeing
 pub mod Producing
 pub mod Reaching
 pub mod Standing
+pub mod Raised
 pub mod Leavings
+pub mod Deleting
 pub mod Opens
 pub mod Planning
 pub mod Staying
@@ -28,6 +30,7 @@ pub mod Unreads
 pub mod Advancing
 pub mod Fewer
 pub mod Doing
+pub mod Naming
 pub mod Parting
 pub mod Letting
 pub mod Spares

@@ -1,5 +1,5 @@
 -- What is opened of three disks, and why nothing is.
-use Rattle.std.proofs.Common.{◌≡◌, ◌≢◌, ◌∙◌, arith, inl, inr, refl, sym, ap, subst, ℕ, List, [], Some, None, Bool, true, false}
+use Rattle.std.proofs.Common.{◌≡◌, ◌≢◌, ◌∙◌, arith, inl, inr, refl, sym, ap, subst, ℕ, pos, List, [], Some, None, Bool, true, false}
 use Rattle.edge_io.specs.declared.name.DiskPlace.{DiskPlace}
 use Rattle.edge_io.specs.declared.name.DiskPlace.TheVariants.{Log, StateA, StateB}
 use Rattle.coord_checkpoint.specs.Disks.{HasFailed}
@@ -11,11 +11,16 @@ use Rattle.part_log.specs.Starts.{Log as PartitionLog}
 use Rattle.part_log.specs.declared.fault.OpenFault.{OpenFault}
 use Rattle.part_log.specs.declared.fault.OpenFault.TheVariants.{Damaged as log_damaged, Device as log_device, NoMemory as log_memory}
 use Rattle.share_coord.specs.Opening.{IsOpened as states_opened, IsNotOpened as states_not_opened}
+use Rattle.share_coord.specs.Holding.{Holds}
 use Rattle.share_coord.specs.Parts.{StoreParts}
+use Rattle.share_model.specs.ForeignRules.{ShareStates}
 use Rattle.share_coord.specs.Stored.{AreDamaged}
 use Rattle.share_part.specs.Faults.{fault_of_log, fault_of_states, state_disk}
-use Rattle.share_part.specs.Hosting.{PartConfParts, AreHosted}
-use Rattle.share_coord.specs.States.{states_of}
+use Rattle.share_coord.specs.Raising.{raised_states}
+use Rattle.share_coord.specs.Unwritten.{AreLevel, raised_all}
+use Rattle.share_coord.proofs.Recovered.{level_first, states_all}
+use Rattle.share_part.specs.Hosting.{ArePartText, PartConfParts, AreHosted}
+use Rattle.share_coord.specs.States.{AreStates, states_of}
 use Rattle.share_part.specs.Opening.{IsOpened, IsNotOpened, AreDamagedAt, StandsForLog}
 use Rattle.share_part.specs.Shards.{PartParts, held_in}
 use Rattle.share_part.specs.declared.opening.PartFault.{PartFault}
@@ -42,12 +47,15 @@ with_room seen a b store n o = record {
     unwritten = o.holds.unwritten;
     sealing = o.holds.sealing;
     keeps = o.holds.keeps;
+    written = o.holds.written;
     taken = o.holds.taken;
+    kept = o.holds.kept;
     few = o.holds.few;
     leaves = o.holds.leaves;
     sealed = o.holds.sealed;
     images = o.holds.images;
   };
+  unraised = o.unraised;
   opens = o.opens;
   only = o.only;
 }
@@ -66,12 +74,41 @@ module _ {D W : Type 0} (seen : D → DiskView) (holding : W → Held)
 
   -- ---- opened
 
-  pub opened : (parts : PartParts D W) → parts.conf ≡ conf → parts.windows ≡ [] → parts.clock ≡ 0 → Keeps seen parts.log None
+  -- states that were opened, and of which each that starts below an offset starts there since
+  pub record Raised (start : ℕ) (before after : StoreParts D) : Type 0 where
+    pub opened : states_opened seen a b before
+    pub entries : after.entries ≡ raised_all (pos start) before.entries
+    pub holds : Holds seen after None
+
+  pub raised_by : (given start : ℕ) (before after : StoreParts D) → given ≡ start → states_opened seen a b before → after.entries ≡ raised_all (pos given) before.entries
+      → (Holds seen before None → Holds seen after None) → Raised start before after
+  raised_by given start before after is opened entries holds = record {
+    opened = opened;
+    entries = entries ∙ ap (λ (n : ℕ). raised_all (pos n) before.entries) is;
+    holds = holds opened.holds;
+  }
+
+  module _ (start : ℕ) (before after : StoreParts D) (r : Raised start before after) where
+    states_are : states_of after.entries ≡ raised_states start (states_of before.entries)
+    states_are = ap states_of r.entries ∙ states_all start before.entries
+
+    -- the states that contents stand for, once raised
+    states_found : (x y : List ℕ) (written : ShareStates) → (seen a).content ≡ Some x → (seen b).content ≡ Some y → AreStates x y written → written ≡ states_of before.entries
+    states_found x y written at_x at_y are = are.is ∙ ap states_of (sym (r.opened.only x y are.entries at_x at_y are.stored))
+
+    raised_found : (log its : PartitionLog) (l x y : List ℕ) (states : ShareStates) → its ≡ log → log.start ≡ start
+        → (seen a).content ≡ Some x → (seen b).content ≡ Some y → ArePartText conf l x y its states → states ≡ states_of after.entries
+    raised_found log its l x y states same at at_x at_y text =
+        let from : its.start ≡ start = ap (λ (l : PartitionLog). l.start) same ∙ at in
+        let written = states_found x y text.written at_x at_y text.states_are in
+        text.raised_is ∙ (λ i. raised_states (from i) (written i)) ∙ sym states_are
+
+  pub opened : (parts : PartParts D W) (before : StoreParts D) → parts.conf ≡ conf → parts.windows ≡ [] → parts.clock ≡ 0 → Keeps seen parts.log None
       → ((c : List ℕ) → (seen disk).content ≡ Some c → IsLogText c (log_in parts.log))
       → ((c : List ℕ) (is : PartitionLog) → (seen disk).content ≡ Some c → IsLogText c is → log_in parts.log ≡ is)
-      → states_opened seen a b parts.states → AreHosted conf (log_in parts.log) (states_of parts.states.entries)
+      → Raised parts.log.start before parts.states → AreHosted conf (log_in parts.log) (states_of parts.states.entries)
       → IsOpened seen holding conf disk a b parts
-  opened parts is windows clock keeps opens only states hosted = record {
+  opened parts before is windows clock keeps opens only states hosted = record {
     conf_is = is;
     carries = record {
       log = record { batches = refl; start = refl; keeps = keeps };
@@ -83,17 +120,19 @@ module _ {D W : Type 0} (seen : D → DiskView) (holding : W → Held)
       clock = sym clock;
       hosted = subst (λ (c : PartConfParts). AreHosted c (log_in parts.log) (states_of parts.states.entries)) (sym is) hosted;
       pending_hosted = tt;
-      unmarked = λ start is. let clash : ⊥ = cc in clash;
+      level = subst (AreLevel parts.log.start) (sym states.entries) (level_first parts.log.start before.entries states.opened.unraised);
+      pending_level = tt;
     };
     opens = λ l x y at_l at_x at_y. record {
       log_is = opens l at_l;
-      states_are = record { entries = parts.states.entries; stored = states.opens x y at_x at_y; is = refl };
+      written = states_of before.entries;
+      states_are = record { entries = before.entries; stored = states.opened.opens x y at_x at_y; is = refl };
+      raised_is = states_are parts.log.start before parts.states states;
       hosted = hosted;
     };
-    only = λ l x y batches its at_l at_x at_y text. (
-      sym (only l batches at_l text.log_is),
-      text.states_are.is ∙ ap states_of (sym (states.only x y text.states_are.entries at_x at_y text.states_are.stored)),
-    );
+    only = λ l x y its found at_l at_x at_y text.
+        let same : its ≡ log_in parts.log = sym (only l its at_l text.log_is) in
+        (same, raised_found parts.log.start before parts.states states (log_in parts.log) its l x y found same refl at_x at_y text);
   }
 
   -- ---- not opened
@@ -169,12 +208,12 @@ module _ {D W : Type 0} (seen : D → DiskView) (holding : W → Held)
     second_device = λ is. absurd (let clash : ⊥ = cc in clash);
   }
 
-  pub misplaced : (disk_now a_now b_now : D) (log : LogParts D) (store : StoreParts D)
+  pub misplaced : (disk_now a_now b_now : D) (log : LogParts D) (before after : StoreParts D)
       → ((c : List ℕ) → (seen disk).content ≡ Some c → IsLogText c (log_in log))
       → ((c : List ℕ) (is : PartitionLog) → (seen disk).content ≡ Some c → IsLogText c is → log_in log ≡ is)
-      → states_opened seen a b store → (AreHosted conf (log_in log) (states_of store.entries) → ⊥)
+      → Raised log.start before after → (AreHosted conf (log_in log) (states_of after.entries) → ⊥)
       → Not disk_now a_now b_now (Damaged StateA 0)
-  misplaced disk_now a_now b_now log store opens only states broken = record {
+  misplaced disk_now a_now b_now log before after opens only states broken = record {
     damaged = λ place_disk place is l x y at_l at_x at_y.
         let d : StateA ≡ place_disk = cc in let p : 0 ≡ place = cc in
         subst (λ (k : DiskPlace). AreDamagedAt conf l x y k place) d (
@@ -183,17 +222,17 @@ module _ {D W : Type 0} (seen : D → DiskView) (holding : W → Held)
             sym p,
             record {
               is = log_in log;
-              states = states_of store.entries;
+              states = states_of before.entries;
               is_log = opens l at_l;
-              are_states = record { entries = store.entries; stored = states.opens x y at_x at_y; is = refl };
-              broken = broken;
+              are_states = record { entries = before.entries; stored = states.opened.opens x y at_x at_y; is = refl };
+              broken = λ h. broken (subst (AreHosted conf (log_in log)) (sym (states_are log.start before after states)) h);
             },
           ),
         );
-    sound = λ l x y batches its at_l at_x at_y text place_disk place is.
-        let same_log : log_in log ≡ batches = only l batches at_l text.log_is in
-        let same : its ≡ states_of store.entries = text.states_are.is ∙ ap states_of (sym (states.only x y text.states_are.entries at_x at_y text.states_are.stored)) in
-        broken (subst (AreHosted conf (log_in log)) same (subst (λ (l : PartitionLog). AreHosted conf l its) (sym same_log) text.hosted));
+    sound = λ l x y its found at_l at_x at_y text place_disk place is.
+        let same : its ≡ log_in log = sym (only l its at_l text.log_is) in
+        broken (subst (AreHosted conf (log_in log)) (raised_found log.start before after states (log_in log) its l x y found same refl at_x at_y text)
+        (subst (λ (k : PartitionLog). AreHosted conf k found) same text.hosted));
     log_device = λ is. absurd (let clash : ⊥ = cc in clash);
     first_device = λ is. absurd (let clash : ⊥ = cc in clash);
     second_device = λ is. absurd (let clash : ⊥ = cc in clash);

@@ -1,15 +1,15 @@
 -- What is held once holds end.
 use Rattle.std.proofs.Common.{◌≡◌, ◌∙◌, refl, ap, ℕ, List, [], ◌∷◌, Option, Some, Bool, true, false, cond}
 use Rattle.std.specs.Prelude.{filter, is_none, not, nat_le, ◌&&◌, if◌then◌else◌}
-use Rattle.ack_ranges.specs.Batches.{kind_at}
-use Rattle.ack_ranges.specs.Pieces.{ArePieces, piece_at}
+use Rattle.ack_ranges.specs.Pieces.{piece_at}
 use Rattle.ack_ranges.specs.declared.piece.Piece.{Piece}
 use Rattle.share_model.specs.Held.{Held, without_range}
 use Rattle.share_model.specs.declared.ack.AckBatch.{AckBatch}
 use Rattle.share_model.specs.declared.ack.AckKind.{AckKind}
 use Rattle.share_model.specs.declared.hold.Hold.{Hold}
+use Rattle.share_part.specs.Named.{AreNamed, named_from}
 use Rattle.share_part.specs.Settling.{Acts, held_after}
-use Rattle.share_part.proofs.Doing.{agreed}
+use Rattle.share_part.proofs.Naming.{agreed}
 
 -- the elements that pass one test, and then another
 pub both : (p q : ℕ × Hold → Bool) (xs : Held) → filter q (filter p xs) ≡ filter (λ e. p e && q e) xs
@@ -38,5 +38,6 @@ left_behind p rest held =
 pub none_left : (held : Held) → held_after (piece_at []) held ≡ held
 none_left held = all_pass (λ e. is_none (piece_at [] e.0)) held (λ e. refl)
 
-pub as_named : (batches : List AckBatch) (pieces : List Piece) (held : Held) → ArePieces batches pieces → held_after (piece_at pieces) held ≡ held_after (kind_at batches) held
-as_named batches pieces held are = ap (λ (a : Acts). held_after a held) (agreed batches pieces are)
+pub as_named : (start : ℕ) (batches : List AckBatch) (pieces : List Piece) (held : Held) → AreNamed start batches pieces
+    → held_after (piece_at pieces) held ≡ held_after (named_from start batches) held
+as_named start batches pieces held are = ap (λ (a : Acts). held_after a held) (agreed start batches pieces are)

@@ -1,6 +1,7 @@
 -- A produced batch as a step of the shard.
-use Rattle.std.proofs.Common.{◌≡◌, ◌≢◌, ◌⊎◌, ⊎_elim, ◌∙◌, inl, inr, refl, sym, ap, subst, arith, ℕ, zero, suc, ◌+◌, ◌<◌, ◌≤◌, max, List, [], ◌∷◌, ◌++◌, length, slice_index_or, Option, Some, None, Bool, true, false, nat_le, if◌then◌else◌}
-use Rattle.std.specs.Prelude.{Result, Ok, Err}
+use Rattle.std.proofs.Common.{◌≡◌, ◌≢◌, ◌⊎◌, ⊎_elim, ◌∙◌, inl, inr, refl, sym, ap, subst, arith, ℕ, zero, suc, ◌+◌, ◌<◌, ◌≤◌, ◌^◌, max, List, [], ◌∷◌, ◌++◌, length, slice_index_or, Option, Some, None, Bool, true, false, nat_le, if◌then◌else◌}
+use Rattle.std.specs.Prelude.{Result, Ok, Err, IfOk}
+use Rattle.std.specs.Option.{IfSome}
 use Rattle.std.specs.List.{Contains}
 use Rattle.edge_io.specs.Armed.{StarvesUnarmed}
 use Rattle.edge_io.specs.Causes.{Rose}
@@ -15,12 +16,13 @@ use Rattle.share_model.specs.declared.fault.StoreFault.TheVariants.{Device, Full
 use Rattle.part_log.specs.Logs.{AddsOnce, IsStoredLog, IsWithin, Keeps, LogParts, MayFollow, log_in}
 use Rattle.part_log.specs.Shards.{LogShardState, CarriesLog, IsLogOf, StepsLog, at_end, log_at}
 use Rattle.part_log.specs.Starts.{Log, LogWrite, with_write}
-use Rattle.part_log.specs.Starts.LogWrite.{Adds, Marks}
+use Rattle.part_log.specs.Starts.LogWrite.{Adds}
 use Rattle.part_log.proofs.Frames.{bounds}
 use Rattle.part_log.proofs.Rising.{end_more, sound_more}
+use Rattle.share_coord.specs.Unwritten.{AreLevel}
 use Rattle.share_part.specs.Hosting.{PartConfParts, AreHosted}
 use Rattle.share_part.specs.Once.{ProducesOnce}
-use Rattle.share_part.specs.Shards.{PartShardState, PartParts, Carries, IsPendingHosted}
+use Rattle.share_part.specs.Shards.{PartShardState, PartParts, Carries, IsPendingHosted, base_in, placed_at}
 use Rattle.share_part.specs.Slots.{and_more, next_slot, slots_from}
 use Rattle.edge_io.specs.Views.{DiskView}
 
@@ -64,7 +66,7 @@ contains_more (suc n) log b from o h = by_next (next_slot log from) refl h (λ s
         (⊎_elim (λ e. front_in slot o (slots_from n (log ++ b ∷ []) (slot + 1)) e) (λ c. behind_in slot o (slots_from n (log ++ b ∷ []) (slot + 1)) (ih slot c))
         (front_or slot o (slots_from n log (slot + 1)) h))
 
-end_later : (log : List Batch) (b : Batch) → MayFollow log b → end_of log ≤ end_of (log ++ b ∷ [])
+pub end_later : (log : List Batch) (b : Batch) → MayFollow log b → end_of log ≤ end_of (log ++ b ∷ [])
 end_later log b f =
     let order = (bounds b f.stored).order in
     let behind = f.behind in
@@ -79,6 +81,7 @@ hosted_later conf log b states f h key state is =
       key_is = was.key_is;
       epochs = was.epochs;
       start = (was.start.0, was.start.1, was.start.2, (let le = was.start.3 in let later = end_later log.batches b f in omega (arith, le, later)));
+      canonical = was.canonical;
       rows = λ offset row at.
           let r = was.rows offset row at in
           record { slot = contains_more 2000 log.batches b (size_of state.start) offset r.slot; delivered = r.delivered; again = r.again };
@@ -135,16 +138,19 @@ step_start rose end old new bytes (Err (Store (Full at))) s = ap (λ (l : LogSha
 step_start rose end old new bytes (Err (Behind at)) s = absurd s
 step_start rose end old new bytes (Err NoMemory) s = absurd s
 
--- no mark becomes pending
-step_unmarked : (rose : Type 0) (end : ℕ) (old new : LogShardState) (bytes : List ℕ) (result : Result ℕ LogFault) → StepsLog rose end old bytes result new
-    → ((start : ℕ) → old.pending ≢ Some (Marks start)) → (start : ℕ) → new.pending ≢ Some (Marks start)
-step_unmarked rose end old new bytes (Ok base) s h start is = absurd (let never : ◌≡◌ {A = Option LogWrite} None (Some (Marks start)) = sym s.nothing ∙ is in let clash : ⊥ = cc in clash)
-step_unmarked rose end old new bytes (Err (BadBatch fault)) s h start is = h start (sym (ap (λ (l : LogShardState). l.pending) s.1) ∙ is)
-step_unmarked rose end old new bytes (Err (Store Device)) s h start is = ⊎_elim (λ same. h start (sym same ∙ is))
-    (λ added. absurd (let never : Some (Adds (at_end old.batches bytes)) ≡ Some (Marks start) = sym added ∙ is in let clash : ⊥ = cc in clash)) s.1.pending
-step_unmarked rose end old new bytes (Err (Store (Full at))) s h start is = h start (sym (ap (λ (l : LogShardState). l.pending) s.1) ∙ is)
-step_unmarked rose end old new bytes (Err (Behind at)) s h start is = absurd s
-step_unmarked rose end old new bytes (Err NoMemory) s h start is = absurd s
+-- ---- what is told
+
+pub base_again : (start : ℕ) (r : Result ℕ LogFault) → base_in (placed_at start r) ≡ r
+base_again start (Ok base) = refl
+base_again start (Err fault) = refl
+
+pub told_below : (start : ℕ) (r : Result ℕ LogFault) → IfOk r (λ base. base ≤ 2 ^ 62) → start ≤ 2 ^ 62 → IfOk (placed_at start r) (λ placed. (placed.base ≤ 2 ^ 62) × (placed.start ≤ 2 ^ 62))
+told_below start (Ok base) le below = (le, below)
+told_below start (Err fault) le below = tt
+
+told_start : (start at : ℕ) (r : Result ℕ LogFault) → start ≡ at → IfOk (placed_at start r) (λ placed. placed.start ≡ at)
+told_start start at (Ok base) is = is
+told_start start at (Err fault) is = tt
 
 module _ {D W : Type 0} (seen : D → DiskView) (holding : W → Held) (now : ℕ) (bytes : List ℕ) (old : PartParts D W)
     (log : LogParts D) (clock : ℕ) (result : Result ℕ LogFault)
@@ -227,6 +233,9 @@ module _ {D W : Type 0} (seen : D → DiskView) (holding : W → Held) (now : �
   sound : result ≡ Err (Store Device) → StarvesUnarmed seen old.log.journal.disk log.journal.disk
   sound is = (once.device is).3
 
+  told_err : (start : ℕ) (fault : LogFault) → placed_at start result ≡ Err fault → result ≡ Err fault
+  told_err start fault is = sym (base_again start result) ∙ ap base_in is
+
   -- no device call failed, where no device fault is told
   abbrev Quiet : Type 0
   Quiet = IsQuiet seen old.log.journal.disk log.journal.disk
@@ -243,27 +252,27 @@ module _ {D W : Type 0} (seen : D → DiskView) (holding : W → Held) (now : �
   quiet (Err NoMemory) o none = quiet_same (o.unchanged NoMemory refl (λ e. let clash : ⊥ = cc in clash))
 
   -- no memory was found
-  pub hungry : result ≡ Err NoMemory → clock ≡ old.clock → ProducesOnce seen holding now bytes old after result
+  pub hungry : result ≡ Err NoMemory → clock ≡ old.clock → ProducesOnce seen holding now bytes old after (Err NoMemory)
   hungry is same = record {
-    steps = λ fed. absurd (fed is);
+    steps = λ fed. absurd (fed refl);
     memory = λ e.
         let l : log ≡ old.log = once.unchanged NoMemory is (λ f. let clash : ⊥ = cc in clash) in
         λ i. record { conf = old.conf; log = l i; states = old.states; windows = old.windows; clock = same i };
-    quiet = quiet result once;
-    sound = sound;
+    quiet = λ none. quiet_same (once.unchanged NoMemory is (λ f. let clash : ⊥ = cc in clash));
+    sound = λ e. absurd (let clash : ⊥ = cc in clash);
     any_moment = moments;
     ends = ends;
     states = refl;
     conf = refl;
   }
 
-  -- a step was made
-  pub produced : result ≢ Err NoMemory → clock ≡ max old.clock now
+  -- a step was made, and it is told where the log starts
+  pub produced : (start : ℕ) → start ≡ log.start → result ≢ Err NoMemory → clock ≡ max old.clock now
       → (result ≢ Err NoMemory → (shard : LogShardState) → CarriesLog seen old.log shard → (next : LogShardState) × CarriesLog seen log next
       × StepsLog (Rose (seen old.log.journal.disk).faults (seen log.journal.disk).faults) old.log.journal.end shard bytes result next)
-      → ProducesOnce seen holding now bytes old after result
-  produced fed at steps = record {
-    steps = λ same shard c.
+      → ProducesOnce seen holding now bytes old after (placed_at start result)
+  produced start starts_at fed at steps = record {
+    steps = λ told shard c.
         let s = steps fed shard.log c.log in
         let grows = step_grows (Rose (seen old.log.journal.disk).faults (seen log.journal.disk).faults) old.log.journal.end shard.log s.0 bytes result s.2 in
         let starts = step_start (Rose (seen old.log.journal.disk).faults (seen log.journal.disk).faults) old.log.journal.end shard.log s.0 bytes result s.2 in (
@@ -278,13 +287,19 @@ module _ {D W : Type 0} (seen : D → DiskView) (holding : W → Held) (now : �
             clock = refl;
             hosted = grows_hosted old.conf (log_at shard.log) (log_at s.0) shard.states grows starts c.hosted;
             pending_hosted = grows_pending old.conf (log_at shard.log) (log_at s.0) shard.pending grows starts c.pending_hosted;
-            unmarked = step_unmarked (Rose (seen old.log.journal.disk).faults (seen log.journal.disk).faults) old.log.journal.end shard.log s.0 bytes result s.2 c.unmarked;
+            level = subst (λ (n : ℕ). AreLevel n old.states.entries) (sym starts) c.level;
+            pending_level = subst (λ (n : ℕ). IfSome c.pending (AreLevel n)) (sym starts) c.pending_level;
           },
-          record { clock = at ∙ ap (λ (n : ℕ). max n now) (sym c.clock); log = s.2; still = record { states = refl; pending = refl; held = refl } },
+          record {
+            clock = at ∙ ap (λ (n : ℕ). max n now) (sym c.clock);
+            log = subst (λ (r : Result ℕ LogFault). StepsLog (Rose (seen old.log.journal.disk).faults (seen log.journal.disk).faults) old.log.journal.end shard.log bytes r s.0) (sym (base_again start result)) s.2;
+            start = told_start start shard.log.start result (starts_at ∙ (added_start result once ∙ sym c.log.start));
+            still = record { states = refl; pending = refl; held = refl };
+          },
         );
-    memory = λ is. absurd (fed is);
-    quiet = quiet result once;
-    sound = sound;
+    memory = λ is. absurd (fed (told_err start NoMemory is));
+    quiet = λ none. quiet result once (λ is. none (ap (placed_at start) is));
+    sound = λ is. sound (told_err start (Store Device) is);
     any_moment = moments;
     ends = ends;
     states = refl;

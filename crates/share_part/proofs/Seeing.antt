@@ -1,10 +1,11 @@
 -- The states of a store, and those that a partition may have.
-use Rattle.std.proofs.Common.{◌≡◌, ◌∙◌, refl, sym, ap, subst, arith, ℕ, pos, ◌≤◌, List, [], ◌∷◌, Option, Some, Bool, true, false, cond}
+use Rattle.std.proofs.Common.{◌≡◌, ◌∙◌, refl, sym, ap, subst, arith, ℕ, ℤ, pos, ◌≤◌, List, [], ◌∷◌, Option, Some, Bool, true, false, cond}
 use Rattle.std.specs.Option.{option_map}
 use Rattle.std.specs.declared.cmp.Ordering.{Ordering}
 use Rattle.std.specs.declared.cmp.Ordering.TheVariants.{Less, Equal, Greater}
 use Rattle.std.specs.Ordering.{match_ordering}
 use Rattle.std.specs.BTreeMap.{insert_entry, is_at}
+use Rattle.offset_runs.proofs.Cuts.{no_lt}
 use Rattle.share_model.specs.ForeignRules.{ShareStates, share_state_at, size_of}
 use Rattle.share_model.specs.Keys.{KeyParts, key_cmp}
 use Rattle.share_model.specs.Logs.{end_of}
@@ -15,12 +16,15 @@ use Rattle.share_model.specs.declared.reset.Reset.TheVariants.{Latest, Earliest}
 use Rattle.share_coord.specs.Calls.{IsInitialised}
 use Rattle.share_coord.specs.Stored.{Entries, based, based_kept, kept_at, with_kept}
 use Rattle.share_coord.specs.Parts.{KeptState}
+use Rattle.share_coord.specs.Raising.{starts_below}
+use Rattle.share_coord.specs.Unwritten.{AreLevel}
 use Rattle.share_part.specs.Hosting.{PartConfParts, AreHosted, IsHosted, key_of}
 use Rattle.share_coord.specs.States.{states_of}
 use Rattle.share_part.specs.Shards.{first_start, new_state}
 use Rattle.share_part.specs.Tables.{MayGoOut}
 use Rattle.share_coord.proofs.Held.{states_based}
 use Rattle.share_coord.proofs.Keys.{some_is}
+use Rattle.share_coord.proofs.Recovered.{level_written}
 use Rattle.share_part.proofs.Mapping.{keys_total, keys_exact, at_is, set_found, set_other}
 
 abbrev pub view_of : KeptState → ShareState
@@ -80,6 +84,7 @@ module _ (conf : PartConfParts) (log : Log) where
     key_is = refl;
     epochs = (refl, refl);
     start = (let s = start_within within conf.reset in (first_start conf.reset log, refl, s.0, s.1));
+    canonical = tt;
     rows = λ offset row is. absurd (let never : ⊥ = cc in never);
   }
 
@@ -91,6 +96,20 @@ module _ (conf : PartConfParts) (log : Log) where
       let le = s.2 in
       let at : size_of state.start ≡ s.0 = ap size_of s.1 in
       omega (arith, le, at)
+
+  -- so it doesn't start below it
+  pub level_of : (key : KeyParts) (state : ShareState) → IsHosted conf log key state → starts_below state.start log.start ≡ false
+  level_of key state h =
+      let s = h.start in
+      ap (λ (z : ℤ). starts_below z log.start) s.1 ∙ no_lt s.0 log.start s.2
+
+  -- nor does what a write leaves of a table
+  pub write_level : (old new : Entries) (c : Bool) (key : KeyParts) (kept : KeptState) → new ≡ with_kept (based c old) key kept → kept.raised ≡ false
+      → AreHosted conf log (states_of new) → AreLevel log.start old → AreLevel log.start new
+  write_level old new c key kept is never hosted h =
+      let found : share_state_at (states_of new) key ≡ Some kept.view = ap (λ (s : ShareStates). share_state_at s key) (ap states_of is ∙ with_based c old key kept)
+      ∙ set_found key_cmp keys_total keys_exact key kept.view (states_of old) in
+      level_written log.start c old new key kept is never (level_of key kept.view (hosted key kept.view found)) h
 
   -- what is stored of a group may go out
   pub goes_out : (states : ShareStates) (key : KeyParts) (state : ShareState) → AreHosted conf log states → share_state_at states key ≡ Some state → MayGoOut state.runs

@@ -159,6 +159,7 @@ module _ {from : ℕ} (conf : PartConfParts) (log : List Batch) (group : List �
           (let le = was.start.2 in let at : size_of state.start ≡ was.start.0 = ap size_of was.start.1 in let later = starts.0 in omega (arith, le, at, later)),
           starts.1,
         );
+        canonical = s.canonical;
         rows = λ offset row at.
             let there = from_start offset s.start (stored_after conf.limit acts (table_of state held) offset) row (sym (s.rows offset) ∙ at) in
             subst (λ (z : ℕ). IsHostedRow log z offset row) (sym (ap size_of s.start_told))

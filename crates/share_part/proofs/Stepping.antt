@@ -3,7 +3,7 @@ use Rattle.std.proofs.Common.{◌≡◌, ◌∙◌, refl, sym, ap, ℕ, pos, Lis
 use Rattle.std.specs.Prelude.{ℤ, nat_lt, unwrap_or, if◌then◌else◌}
 use Rattle.std.specs.BTreeMap.{insert_entry}
 use Rattle.std.specs.Option.{option_or}
-use Rattle.share_coord.specs.Calls.{written_of}
+use Rattle.share_coord.specs.Calls.{counted, written_of}
 use Rattle.share_coord.specs.Stored.{Entries, kept_at}
 use Rattle.share_model.specs.ForeignRules.{share_state_at, size_of}
 use Rattle.share_model.specs.Held.{Held}
@@ -68,4 +68,4 @@ module _ {from : ℕ} (conf : PartConfParts) (log : List Batch) (es new : Entrie
   pub now_states : states_of new ≡ insert_entry key_cmp (states_of es) (key_of conf group) next
   now_states = ap states_of w.is ∙ with_based w.checkpointed es (key_of conf group) _
       ∙ ap (λ (v : ShareState). insert_entry key_cmp (states_of es) (key_of conf group)
-      (record { state_epoch = pos 0; leader_epoch = pos 0; start = start_after v.start (start_number change.start); runs = w.laid })) (kept_view w.checkpointed w.kept)
+      (record { state_epoch = pos 0; leader_epoch = pos 0; start = start_after v.start (start_number change.start); runs = w.laid })) (kept_view w.checkpointed (counted w.kept (start_after w.kept.view.start (start_number change.start))))

@@ -1,7 +1,7 @@
 -- Acts on the table of a group, by what came of their write, as a step of the shard.
-use Rattle.std.proofs.Common.{◌≡◌, ⊎_elim, inl, inr, refl, sym, ap, subst, ℕ, ◌+◌, ◌^◌, ◌<◌, ◌≤◌, List, length, Option, Some, None}
+use Rattle.std.proofs.Common.{◌≡◌, ⊎_elim, inl, inr, refl, sym, ap, subst, ℕ, ◌+◌, ◌^◌, ◌<◌, ◌≤◌, List, length, Option, Some, None, Bool}
 use Rattle.std.specs.BTreeMap.{insert_entry}
-use Rattle.std.specs.Option.{option_map}
+use Rattle.std.specs.Option.{IfSome, option_map}
 use Rattle.coord_checkpoint.specs.Disks.{HasFailed}
 use Rattle.share_model.specs.ForeignRules.{ShareStates}
 use Rattle.share_model.specs.Held.{Held}
@@ -13,8 +13,10 @@ use Rattle.part_log.specs.Logs.{IsStoredLog, log_in}
 use Rattle.part_log.specs.Starts.{LogWrite}
 use Rattle.share_coord.specs.Holding.{Holds}
 use Rattle.share_coord.specs.Parts.{StoreParts}
-use Rattle.share_coord.specs.Stored.{Entries}
+use Rattle.share_coord.specs.Stored.{Entries, based}
+use Rattle.share_coord.specs.Unwritten.{AreLevel}
 use Rattle.share_coord.proofs.Once.{held_still}
+use Rattle.share_coord.proofs.Recovered.{level_based}
 use Rattle.share_part.specs.Acknowledging.{AreSettled, NameNone, NameOne, StoresActs}
 use Rattle.share_part.specs.Failures.{AreQuiet, FailuresRose, RunOnBoth, StarveUnarmed}
 use Rattle.share_part.specs.Hosting.{AreHosted, IsHosted, KeepsHolds, key_of}
@@ -26,7 +28,7 @@ use Rattle.share_part.specs.Tables.{table_of}
 use Rattle.share_part.specs.Writes.{WritesActs}
 use Rattle.share_part.proofs.Failing.{quiet_same, rose_either, starve_either}
 use Rattle.share_part.proofs.Holding.{AreKept, kept_settled, same_kept, set_kept}
-use Rattle.share_part.proofs.Seeing.{hosted_more}
+use Rattle.share_part.proofs.Seeing.{hosted_more, write_level}
 use Rattle.share_part.proofs.Staying.{settled_hosted}
 use Rattle.share_part.proofs.Stepping.{next, now_settled, now_states}
 use Rattle.share_part.proofs.Visiting.{Keeping, carried, carries_with, shard_of}
@@ -89,6 +91,9 @@ module _ {D W : Type 0} (seen : D → DiskView) (holding : W → Held) (group : 
     set_hosted = subst (AreHosted old.conf (log_in old.log)) (sym its_states) (hosted_more old.conf (log_in old.log) (states_of old.states.entries) key its_next hosted
         (settled_hosted old.conf old.log.batches group st.state was acts sound.rises few its_hosted its_kept.0 its_next its_settled))
 
+    set_level : AreLevel old.log.start old.states.entries → AreLevel old.log.start es
+    set_level h = write_level old.conf (log_in old.log) old.states.entries es w.checkpointed key _ w.is refl set_hosted h
+
     set_well : AreKept old.conf old.log.batches (states_of es) (with_held (held_in holding old.windows) group (held_after acts was))
     set_well = subst (λ (s : ShareStates). AreKept old.conf old.log.batches s (with_held (held_in holding old.windows) group (held_after acts was))) (sym its_states)
         (set_kept old.conf old.log.batches (states_of old.states.entries) (held_in holding old.windows) group its_next (held_after acts was) kept
@@ -139,19 +144,24 @@ module _ {D W : Type 0} (seen : D → DiskView) (holding : W → Held) (group : 
   }
 
   pub same_carried : (batch : Option LogWrite) (was_pending pending : Option Entries) → Keeping seen holding old batch was_pending → states_of states.entries ≡ states_of old.states.entries
-      → Holds seen states pending → IsPendingHosted old.conf (log_in old.log) (option_map states_of pending) → Same → Carries seen holding behind (shard_same batch pending)
-  same_carried batch was_pending pending k entries holds fine same =
-      carries_with seen holding old behind batch was_pending pending (held_in holding old.windows) k refl (λ shard c. c) entries holds fine (λ group. sym (same group))
+      → Holds seen states pending → IsPendingHosted old.conf (log_in old.log) (option_map states_of pending)
+      → AreLevel old.log.start states.entries → IfSome pending (AreLevel old.log.start) → Same → Carries seen holding behind (shard_same batch pending)
+  same_carried batch was_pending pending k entries holds fine level pending_level same =
+      carries_with seen holding old behind batch was_pending pending (held_in holding old.windows) k refl (λ shard c. c) entries holds fine level pending_level (λ group. sym (same group))
 
   pub still : (Does : PartShardState → PartShardState → Type 0) → states ≡ old.states → Same
       → ((batch : Option LogWrite) (pending : Option Entries) → Does (shard_of seen holding old batch pending) (shard_same batch pending)) → AllSteps Does
   still Does is same does = carried seen holding old (Steps Does) (λ batch pending k. record {
     then = shard_same batch pending;
-    carries = same_carried batch pending pending k (ap (λ (s : StoreParts D). states_of s.entries) is) (subst (λ (s : StoreParts D). Holds seen s pending) (sym is) k.holds) k.pending_hosted same;
+    carries = same_carried batch pending pending k (ap (λ (s : StoreParts D). states_of s.entries) is) (subst (λ (s : StoreParts D). Holds seen s pending) (sym is) k.holds) k.pending_hosted
+        (subst (λ (s : StoreParts D). AreLevel old.log.start s.entries) (sym is) k.level) k.pending_level same;
     log = refl;
     clock_is = refl;
     does = does batch pending;
   })
+
+  level_left : AreLevel old.log.start old.states.entries → (c : Bool) × (states.entries ≡ based c old.states.entries) → AreLevel old.log.start states.entries
+  level_left h left = subst (AreLevel old.log.start) (sym left.1) (level_based old.log.start left.0 old.states.entries h)
 
   abbrev pub DoesActs : Option StoreFault → PartShardState → PartShardState → Type 0
   DoesActs fault s t = StoresActs old.conf Rises old.states.journal.end s group acts t fault
@@ -176,7 +186,8 @@ module _ {D W : Type 0} (seen : D → DiskView) (holding : W → Held) (group : 
       clock = refl;
       hosted = set_hosted None h.1 states.entries h.1.once.written;
       pending_hosted = tt;
-      unmarked = k.unmarked;
+      level = set_level None h.1 states.entries h.1.once.written k.level;
+      pending_level = tt;
     };
     log = refl;
     clock_is = refl;
@@ -187,14 +198,15 @@ module _ {D W : Type 0} (seen : D → DiskView) (holding : W → Held) (group : 
       ⊎_elim
       (λ holds. record {
         then = shard_same batch pending;
-        carries = same_carried batch pending pending k h.1.once.same holds k.pending_hosted h.2;
+        carries = same_carried batch pending pending k h.1.once.same holds k.pending_hosted (level_left k.level h.1.once.left) k.pending_level h.2;
         log = refl;
         clock_is = refl;
         does = (h.0, rises, record { states = refl; held = refl; pending = inl refl });
       })
       (λ lost. record {
         then = shard_same batch (Some lost.0);
-        carries = same_carried batch pending (Some lost.0) k h.1.once.same lost.2 (set_hosted (Some Device) h.1 lost.0 lost.1) h.2;
+        carries = same_carried batch pending (Some lost.0) k h.1.once.same lost.2 (set_hosted (Some Device) h.1 lost.0 lost.1) (level_left k.level h.1.once.left)
+            (set_level (Some Device) h.1 lost.0 lost.1 k.level) h.2;
         log = refl;
         clock_is = refl;
         does = (h.0, rises, record { states = refl; held = refl; pending = inr (states_of lost.0, refl, are_settled (Some Device) h.1 lost.0 lost.1 batch pending) });
@@ -203,7 +215,7 @@ module _ {D W : Type 0} (seen : D → DiskView) (holding : W → Held) (group : 
   stored_steps runs (Some (Full at)) h = carried seen holding old (Steps (DoesActs (Some (Full at)))) (λ batch pending k.
       let full = h.1.once.full at refl in record {
         then = shard_same batch pending;
-        carries = same_carried batch pending pending k h.1.once.same (held_still seen old.states states (h.1.once.unchanged (λ e. let never : ⊥ = cc in never)) pending k.holds) k.pending_hosted h.2;
+        carries = same_carried batch pending pending k h.1.once.same (held_still seen old.states states (h.1.once.unchanged (λ e. let never : ⊥ = cc in never)) pending k.holds) k.pending_hosted (level_left k.level h.1.once.left) k.pending_level h.2;
         log = refl;
         clock_is = refl;
         does = (

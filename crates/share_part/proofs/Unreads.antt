@@ -24,6 +24,7 @@ use Rattle.share_coord.specs.Calls.{IsInitialised}
 use Rattle.share_coord.specs.Holding.{Holds, WritesOnce}
 use Rattle.share_coord.specs.Parts.{StoreParts}
 use Rattle.share_coord.specs.Stored.{kept_at}
+use Rattle.share_coord.specs.Unwritten.{AreLevel}
 use Rattle.share_coord.specs.declared.fault.CoordFault.{CoordFault}
 use Rattle.share_coord.specs.declared.fault.CoordFault.TheVariants.{Invalid, Unknown, FencedLeader, FencedState, TooMany, Store, NoMemory}
 use Rattle.share_coord.specs.Parts.{KeptState}
@@ -37,7 +38,7 @@ use Rattle.share_part.specs.Following.{HasItsTable, HasNothingToWrite, IsFetch, 
 use Rattle.share_part.specs.Shards.{PartShardState, PartParts, Carries, held_in, new_state, first_start}
 use Rattle.share_part.specs.Writes.{WritesThen}
 use Rattle.share_part.proofs.Failing.{quiet_same}
-use Rattle.share_part.proofs.Seeing.{state_seen, view_of, hosted_more, new_hosted, made_is}
+use Rattle.share_part.proofs.Seeing.{state_seen, view_of, hosted_more, new_hosted, made_is, write_level}
 use Rattle.edge_io.specs.Views.{DiskView}
 use Rattle.share_part.proofs.Visiting.{carried, carries_with, shard_of}
 
@@ -87,7 +88,7 @@ module _ {D W : Type 0} (seen : D → DiskView) (holding : W → Held) (now : �
     shard_left batch (states_of old.states.entries) (option_map states_of pending),
     carries_with seen holding old new batch pending pending (held_in holding old.windows) k conf (carries_on seen old.log new.log log.reads)
         (ap (λ (s : StoreParts D). states_of s.entries) states) (subst (λ (s : StoreParts D). Holds seen s pending) (sym states) k.holds) k.pending_hosted
-        (λ group. sym (held group)),
+        (subst (λ (s : StoreParts D). AreLevel old.log.start s.entries) (sym states) k.level) k.pending_level (λ group. sym (held group)),
     record {
       clock = clock;
       log = refl;
@@ -124,7 +125,9 @@ module _ {D W : Type 0} (seen : D → DiskView) (holding : W → Held) (now : �
           hosted = subst (λ (c : PartConfParts). AreHosted c (log_in old.log) (states_of new.states.entries)) (sym conf)
               (subst (AreHosted old.conf (log_in old.log)) (sym states) hosted);
           pending_hosted = tt;
-          unmarked = k.unmarked;
+          level = write_level old.conf (log_in old.log) old.states.entries new.states.entries once.written.checkpointed its_key _ once.written.is refl
+              (subst (AreHosted old.conf (log_in old.log)) (sym states) hosted) k.level;
+          pending_level = tt;
         },
         record {
           clock = clock;

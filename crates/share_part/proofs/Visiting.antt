@@ -2,7 +2,7 @@
 use Rattle.std.proofs.Common.{◌≡◌, ◌≢◌, ◌⊎◌, ⊎_elim, ◌∙◌, inl, inr, refl, sym, ap, subst, ℕ, pos, ◌+◌, ◌^◌, ◌<◌, ◌≤◌, max, List, [], length}
 use Rattle.std.specs.Prelude.{Option, Some, None, Result, Ok, Err, IsErr, IsOk, IsSome, is_some, unwrap_or, Bool, true, false}
 use Rattle.std.specs.BTreeMap.{insert_entry}
-use Rattle.std.specs.Option.{option_map}
+use Rattle.std.specs.Option.{IfSome, option_map}
 use Rattle.flex_fields.specs.declared.fault.NoMemory.{NoMemory as want}
 use Rattle.coord_checkpoint.specs.Disks.{HasFailed}
 use Rattle.share_model.specs.ForeignRules.{ShareStates, share_state_at}
@@ -21,17 +21,18 @@ use Rattle.share_model.specs.declared.visit.VisitAnswer.{VisitAnswer}
 use Rattle.part_log.specs.Logs.{Keeps, log_in}
 use Rattle.part_log.specs.Shards.{CarriesLog, LogShardState, log_at}
 use Rattle.part_log.specs.Starts.{Log, LogWrite}
-use Rattle.part_log.specs.Starts.LogWrite.{Marks}
 use Rattle.part_log.proofs.Keeping.{keeps_start}
 use Rattle.part_log.proofs.Looking.{carries_on}
 use Rattle.share_coord.specs.Calls.{IsInitialised}
 use Rattle.share_coord.specs.Holding.{Holds, WritesOnce}
 use Rattle.share_coord.specs.Parts.{StoreParts}
-use Rattle.share_coord.specs.Stored.{Entries, kept_at}
+use Rattle.share_coord.specs.Stored.{Entries, based, kept_at}
+use Rattle.share_coord.specs.Unwritten.{AreLevel}
 use Rattle.share_coord.specs.declared.fault.CoordFault.{CoordFault}
 use Rattle.share_coord.specs.declared.fault.CoordFault.TheVariants.{Invalid, Unknown, FencedLeader, FencedState, TooMany, Store, NoMemory}
 use Rattle.share_coord.specs.Parts.{KeptState}
 use Rattle.share_coord.proofs.Once.{held_still}
+use Rattle.share_coord.proofs.Recovered.{level_based}
 use Rattle.share_part.specs.declared.limits.Limits.{Limits}
 use Rattle.share_part.specs.Failures.{AreQuiet, FailuresRose, RunOnBoth, StarveUnarmed}
 use Rattle.share_part.specs.Hosting.{PartConfParts, AreHosted, HoldsWell, KeepsHolds, key_of}
@@ -49,7 +50,7 @@ use Rattle.share_part.proofs.Appending.{numbered_is}
 use Rattle.share_part.proofs.Failing.{quiet_same, rose_either, starve_either}
 use Rattle.share_part.proofs.Holding.{AreKept, kept_taken, none_kept, one_kept, same_kept, table_kept}
 use Rattle.share_part.proofs.Mapping.{keys_exact, keys_total, set_found}
-use Rattle.share_part.proofs.Seeing.{state_seen, view_of, hosted_more, new_hosted, made_is, goes_out}
+use Rattle.share_part.proofs.Seeing.{state_seen, view_of, hosted_more, new_hosted, made_is, goes_out, write_level}
 use Rattle.edge_io.specs.Views.{DiskView}
 
 module _ {D W : Type 0} (seen : D → DiskView) (holding : W → Held) where
@@ -68,7 +69,8 @@ module _ {D W : Type 0} (seen : D → DiskView) (holding : W → Held) where
     pub holds : Holds seen parts.states pending
     pub hosted : AreHosted parts.conf (log_in parts.log) (states_of parts.states.entries)
     pub pending_hosted : IsPendingHosted parts.conf (log_in parts.log) (option_map states_of pending)
-    pub unmarked : (start : ℕ) → batch ≢ Some (Marks start)
+    pub level : AreLevel parts.log.start parts.states.entries
+    pub pending_level : IfSome pending (AreLevel parts.log.start)
 
   -- what holds of that holds of each shard that is carried
   pub carried : (parts : PartParts D W) (P : PartShardState → Type 0) → ((batch : Option LogWrite) (pending : Option Entries) → Keeping parts batch pending → P (shard_of parts batch pending))
@@ -88,7 +90,8 @@ module _ {D W : Type 0} (seen : D → DiskView) (holding : W → Held) where
         holds = c.holds;
         hosted = hosted_as c;
         pending_hosted = pending_as c;
-        unmarked = c.unmarked;
+        level = subst (λ (n : ℕ). AreLevel n parts.states.entries) c.log.start c.level;
+        pending_level = subst (λ (n : ℕ). IfSome c.pending (AreLevel n)) c.log.start c.pending_level;
       }))
     where
       logs_as : (c : Carries seen holding parts shard) → log_at shard.log ≡ log_in parts.log
@@ -106,7 +109,8 @@ module _ {D W : Type 0} (seen : D → DiskView) (holding : W → Held) where
   pub carries_with : (parts after : PartParts D W) (batch : Option LogWrite) (was pending : Option Entries) (held : List ℕ → Held) → Keeping parts batch was
       → after.conf ≡ parts.conf → ((shard : LogShardState) → CarriesLog seen parts.log shard → CarriesLog seen after.log shard)
       → states_of after.states.entries ≡ states_of parts.states.entries → Holds seen after.states pending
-      → IsPendingHosted parts.conf (log_in parts.log) (option_map states_of pending) → ((group : List ℕ) → held group ≡ held_in holding after.windows group)
+      → IsPendingHosted parts.conf (log_in parts.log) (option_map states_of pending) → AreLevel parts.log.start after.states.entries → IfSome pending (AreLevel parts.log.start)
+      → ((group : List ℕ) → held group ≡ held_in holding after.windows group)
       → Carries seen holding after (record {
         log = record { batches = parts.log.batches; start = parts.log.start; pending = batch };
         states = states_of parts.states.entries;
@@ -114,7 +118,7 @@ module _ {D W : Type 0} (seen : D → DiskView) (holding : W → Held) where
         held = held;
         clock = after.clock;
       })
-  carries_with parts after batch was pending held k conf log entries holds hosted same = record {
+  carries_with parts after batch was pending held k conf log entries holds hosted level pending_level same = record {
     log = log (record { batches = parts.log.batches; start = parts.log.start; pending = batch }) k.log;
     pending = pending;
     holds = holds;
@@ -124,7 +128,8 @@ module _ {D W : Type 0} (seen : D → DiskView) (holding : W → Held) where
     clock = refl;
     hosted = subst (λ (c : PartConfParts). AreHosted c (log_in parts.log) (states_of parts.states.entries)) (sym conf) k.hosted;
     pending_hosted = subst (λ (c : PartConfParts). IsPendingHosted c (log_in parts.log) (option_map states_of pending)) (sym conf) hosted;
-    unmarked = k.unmarked;
+    level = level;
+    pending_level = pending_level;
   }
 
   -- with other devices that stand for the same
@@ -146,7 +151,8 @@ module _ {D W : Type 0} (seen : D → DiskView) (holding : W → Held) where
     clock = c.clock ∙ sym clock;
     hosted = subst (λ (p : PartConfParts). AreHosted p (log_at shard.log) shard.states) (sym conf) c.hosted;
     pending_hosted = subst (λ (p : PartConfParts). IsPendingHosted p (log_at shard.log) shard.pending) (sym conf) c.pending_hosted;
-    unmarked = c.unmarked;
+    level = subst (AreLevel shard.log.start) (sym entries) c.level;
+    pending_level = c.pending_level;
   }
 
 -- ---- a fetch
@@ -251,6 +257,7 @@ module _ {D W : Type 0} (seen : D → DiskView) (holding : W → Held) (now : �
         t,
         carries_with seen holding old new batch pending pending (held_in holding old.windows) k conf carries_read (ap (λ (s : StoreParts D). states_of s.entries) states)
             (subst (λ (s : StoreParts D). Holds seen s pending) (sym states) k.holds) k.pending_hosted
+            (subst (λ (s : StoreParts D). AreLevel old.log.start s.entries) (sym states) k.level) k.pending_level
             (λ group. ap (λ (w : List (List ℕ × W)). held_in holding w group) (sym windows)),
         record { clock = clock; log = refl; ack = ack; does = by_kind (shard_of seen holding old batch pending) t (record { states = refl; pending = refl; held = refl }) },
       )))
@@ -328,7 +335,8 @@ module _ {D W : Type 0} (seen : D → DiskView) (holding : W → Held) (now : �
         (carried seen holding old (Leads answer) (λ batch pending k. (
           shard_then batch (states_of old.states.entries) (option_map states_of pending) kept.view,
           carries_with seen holding old new batch pending pending (held_then kept.view) k conf carries_read (ap (λ (s : StoreParts D). states_of s.entries) states)
-              (subst (λ (s : StoreParts D). Holds seen s pending) (sym states) k.holds) k.pending_hosted (λ group. sym (took.held group)),
+              (subst (λ (s : StoreParts D). Holds seen s pending) (sym states) k.holds) k.pending_hosted
+              (subst (λ (s : StoreParts D). AreLevel old.log.start s.entries) (sym states) k.level) k.pending_level (λ group. sym (took.held group)),
           record {
             clock = took.clock;
             log = refl;
@@ -358,6 +366,10 @@ module _ {D W : Type 0} (seen : D → DiskView) (holding : W → Held) (now : �
     none_there : kept_at old.states.entries key ≡ None → share_state_at (states_of old.states.entries) key ≡ None
     none_there is = state_seen old.states.entries key ∙ ap (option_map view_of) is
 
+    made_level : (es : Entries) → Written es → old.log.start ≤ end_of old.log.batches → AreHosted old.conf (log_in old.log) (states_of old.states.entries)
+        → AreLevel old.log.start old.states.entries → AreLevel old.log.start es
+    made_level es is starts h level = write_level old.conf (log_in old.log) old.states.entries es is.checkpointed key _ is.is refl (made_hosted es is starts h) level
+
     -- the group has no table, and so there is one to write
     writes_one : kept_at old.states.entries key ≡ None → (done : Result (Unit {0}) CoordFault) → Wrote done → Writes
     writes_one none done once = λ s c nothing.
@@ -382,7 +394,8 @@ module _ {D W : Type 0} (seen : D → DiskView) (holding : W → Held) (now : �
             clock = refl;
             hosted = subst (λ (c : PartConfParts). AreHosted c (log_in old.log) (states_of new.states.entries)) (sym conf) (made_hosted new.states.entries once.written (keeps_start seen old.log batch k.log.keeps) k.hosted);
             pending_hosted = tt;
-            unmarked = k.unmarked;
+            level = made_level new.states.entries once.written (keeps_start seen old.log batch k.log.keeps) k.hosted k.level;
+            pending_level = tt;
           },
           record {
             clock = took.clock;
@@ -414,14 +427,18 @@ module _ {D W : Type 0} (seen : D → DiskView) (holding : W → Held) (now : �
       clock = new.clock;
     }
 
+    level_left : AreLevel old.log.start old.states.entries → (c : Bool) × (new.states.entries ≡ based c old.states.entries) → AreLevel old.log.start new.states.entries
+    level_left h left = subst (AreLevel old.log.start) (sym left.1) (level_based old.log.start left.0 old.states.entries h)
+
     unmade : (answer : VisitAnswer) (fault : StoreFault) (batch : Option LogWrite) (was pending : Option Entries) → Keeping seen holding old batch was → Refused answer fault
         → states_of new.states.entries ≡ states_of old.states.entries → Holds seen new.states pending → IsPendingHosted old.conf (log_in old.log) (option_map states_of pending)
+        → AreLevel old.log.start new.states.entries → IfSome pending (AreLevel old.log.start)
         → kept_at old.states.entries key ≡ None
         → MakesTable old.conf told_there Rises old.states.journal.end (shard_of seen holding old batch was) visit limits answer (shard_same batch pending) (store_outcome fault)
         → Leads answer (shard_of seen holding old batch was)
-    unmade answer fault batch was pending k refused entries holds hosted none makes = (
+    unmade answer fault batch was pending k refused entries holds hosted level pending_level none makes = (
       shard_same batch pending,
-      carries_with seen holding old new batch was pending (held_in holding old.windows) k conf carries_read entries holds hosted (λ group. sym (refused.held group)),
+      carries_with seen holding old new batch was pending (held_in holding old.windows) k conf carries_read entries holds hosted level pending_level (λ group. sym (refused.held group)),
       record {
         clock = refused.clock;
         log = refl;
@@ -439,9 +456,10 @@ module _ {D W : Type 0} (seen : D → DiskView) (holding : W → Held) (now : �
         answered answer (writes_one none (Err (Store Device)) once) (records_of answer (store_outcome Device) refused.empty.outcome_is by) (λ told. absurd (told Device refused.empty.outcome_is))
         (carried seen holding old (Leads answer) (λ batch pending k.
         ⊎_elim
-        (λ holds. unmade answer Device batch pending pending k refused once.same holds k.pending_hosted none
+        (λ holds. unmade answer Device batch pending pending k refused once.same holds k.pending_hosted (level_left k.level once.left) k.pending_level none
         (rose, refused.empty, record { states = refl; pending = inl refl; held = refl }))
-        (λ lost. unmade answer Device batch pending (Some lost.0) k refused once.same lost.2 (made_hosted lost.0 lost.1 (keeps_start seen old.log batch k.log.keeps) k.hosted) none
+        (λ lost. unmade answer Device batch pending (Some lost.0) k refused once.same lost.2 (made_hosted lost.0 lost.1 (keeps_start seen old.log batch k.log.keeps) k.hosted) (level_left k.level once.left)
+        (made_level lost.0 lost.1 (keeps_start seen old.log batch k.log.keeps) k.hosted k.level) none
         (rose, refused.empty, record { states = refl; pending = inr (states_of lost.0, refl, made_states lost.0 lost.1); held = refl }))
         (once.failed pending k.holds)))
         (λ is. starve_either seen old.states new.states failed) (λ fault is. same_log) others_fetch
@@ -449,7 +467,7 @@ module _ {D W : Type 0} (seen : D → DiskView) (holding : W → Held) (now : �
         let full = once.full at refl in
         answered answer (writes_one none (Err (Store (Full at))) once) (records_of answer (store_outcome (Full at)) refused.empty.outcome_is by) (λ told. absurd (told (Full at) refused.empty.outcome_is))
         (carried seen holding old (Leads answer) (λ batch pending k.
-        unmade answer (Full at) batch pending pending k refused once.same (held_still seen old.states new.states (once.unchanged (λ e. let never : ⊥ = cc in never)) pending k.holds) k.pending_hosted none (
+        unmade answer (Full at) batch pending pending k refused once.same (held_still seen old.states new.states (once.unchanged (λ e. let never : ⊥ = cc in never)) pending k.holds) k.pending_hosted (level_left k.level once.left) k.pending_level none (
           full.0,
           refused.empty,
           record { states = refl; pending = refl; held = refl },

@@ -1,6 +1,6 @@
 -- What a crash leaves at a moment of a write of states.
 use Rattle.std.proofs.Common.{◌≡◌, ⊎_elim, inl, inr, subst, arith, ℕ, List}
-use Rattle.ack_ranges.specs.Batches.{IsWellFormed, kind_at}
+use Rattle.ack_ranges.specs.Batches.{IsWellFormed}
 use Rattle.edge_io.specs.Views.{DiskView}
 use Rattle.share_coord.specs.Parts.{StoreParts}
 use Rattle.share_coord.specs.States.{states_of}
@@ -8,11 +8,12 @@ use Rattle.share_coord.specs.Stored.{Entries}
 use Rattle.share_model.specs.ForeignRules.{share_state_at}
 use Rattle.share_model.specs.Held.{Held}
 use Rattle.share_model.specs.Keys.{KeyParts}
-use Rattle.share_model.specs.Logs.{Batch}
 use Rattle.share_model.specs.declared.ack.AckBatch.{AckBatch}
 use Rattle.share_model.specs.declared.run.Run.{Run}
+use Rattle.part_log.specs.Starts.{Log}
 use Rattle.share_part.specs.Foreseeing.{HasChange}
 use Rattle.share_part.specs.Hosting.{PartConfParts, key_of}
+use Rattle.share_part.specs.Named.{named_from}
 use Rattle.share_part.specs.Settling.{AreHeldBy, Change}
 use Rattle.share_part.specs.Storing.{IsAcksWritten, IsStored, WritesWithin}
 
@@ -36,9 +37,9 @@ within_as seen P Q old new f within pending held =
     }
 
 -- the write of acknowledgements
-pub acks_within : {D : Type 0} (seen : D → DiskView) (conf : PartConfParts) (log : List Batch) (group member : List ℕ) (acks : List AckBatch)
-    (held : Held) (old new : StoreParts D) (change : Change) → IsWellFormed acks → AreHeldBy member (kind_at acks) held
-    → HasChange conf.limit (kind_at acks) log held (share_state_at (states_of old.entries) (key_of conf group)) change
+pub acks_within : {D : Type 0} (seen : D → DiskView) (conf : PartConfParts) (log : Log) (group member : List ℕ) (acks : List AckBatch)
+    (held : Held) (old new : StoreParts D) (change : Change) → IsWellFormed acks → AreHeldBy member (named_from log.start acks) held
+    → HasChange conf.limit (named_from log.start acks) log.batches held (share_state_at (states_of old.entries) (key_of conf group)) change
     → (key : KeyParts) (runs : List Run) → key ≡ key_of conf group → runs ≡ change.runs
     → WritesWithin seen (IsStored old.entries key change.start runs) old new
     → WritesWithin seen (IsAcksWritten conf log group member acks held old.entries) old new

@@ -117,7 +117,7 @@ module _ {from : ℕ} (conf : PartConfParts) (log : List Batch) (es : Entries) (
       λ i. fenced_two (leader i) (epoch i) kept
     where
       fenced_two : ℤ → ℤ → KeptState → Option CoordFault
-      fenced_two l e kept = fenced_write (Some (record { view = record { state_epoch = e; leader_epoch = l; start = kept.view.start; runs = kept.view.runs }; snapshot = kept.snapshot; updates = kept.updates })) (pos 0) (pos 0)
+      fenced_two l e kept = fenced_write (Some (record { view = record { state_epoch = e; leader_epoch = l; start = kept.view.start; runs = kept.view.runs }; snapshot = kept.snapshot; updates = kept.updates; raised = kept.raised; tells = kept.tells })) (pos 0) (pos 0)
 
   pub granted : write_refusal (kept_at es key) (pos 0) (pos 0) (start_number change.start) change.runs ≡ None
   granted =

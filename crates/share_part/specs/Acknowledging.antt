@@ -1,12 +1,13 @@
 -- What the acknowledgements of a visit are answered, and leave of a shard (KIP-932; Kafka's ShareAcknowledge). They are all taken, or none is.
--- The first that applies: they aren't well formed; the member doesn't hold an offset that they name, as where the group has no table; there
--- are none, so that no offset is named; the write fails; they are done.
+-- Offsets below the log's start are passed over. The first that applies: they aren't well formed; the member doesn't hold an offset that they
+-- name from there on, as where the group has no table; they name none from there on; the write fails; they are done.
 -- Worked example: a log has one batch from 0 to 2, and `a` holds 0 to 2 with count 1. An accept from 0 to 2^63 - 1 is told that 3 isn't held,
 -- and leaves all. An accept from 0 to 2 stores the start 3 with no rows, and nothing is held any more; where the device fails, all three
--- are held as before, and the write is pending. Where the power is lost meanwhile, the start is 0 or 3.
+-- are held as before, and the write is pending. Where the power is lost meanwhile, the start is 0 or 3. Had a delete raised the log's start to
+-- 2 before, then an accept of 0 and 1 would be done with no write, of whichever member, and one from 0 to 2 would store the start 3.
 use Rattle.std.specs.Prelude.{◌≡◌, ◌⊎◌, ◌+◌, ◌<◌, ◌^◌, ℕ, List, length, Option, Some, None, IsSome}
 use Rattle.std.specs.BTreeMap.{insert_entry}
-use Rattle.ack_ranges.specs.Batches.{IsWellFormed, kind_at}
+use Rattle.ack_ranges.specs.Batches.{IsWellFormed}
 use Rattle.ack_ranges.specs.Faults.{IsFirstFault}
 use Rattle.gate_journal.specs.Frames.{IsFrame}
 use Rattle.share_model.specs.ForeignRules.{ShareStates, share_state_at}
@@ -18,9 +19,12 @@ use Rattle.share_model.specs.declared.fault.StoreFault.TheVariants.{Device, Full
 use Rattle.share_model.specs.declared.visit.AckOutcome.{AckOutcome}
 use Rattle.share_model.specs.declared.visit.AckOutcome.TheVariants.{Done, Malformed, NotHeld, Store}
 use Rattle.share_model.specs.declared.visit.Visit.{Visit}
-use Rattle.share_coord.specs.Stored.{Entries, Accepts}
+use Rattle.share_coord.specs.Holding.{GoesTo}
+use Rattle.share_coord.specs.Stored.{Entries}
 use Rattle.share_part.specs.Hosting.{PartConfParts, key_of}
+use Rattle.share_coord.specs.Raising.{raised_states}
 use Rattle.share_coord.specs.States.{AreStates, states_of}
+use Rattle.share_part.specs.Named.{named_from}
 use Rattle.share_part.specs.Settling.{Acts, AreHeldBy, IsLeastMissing, IsSettled, held_after}
 use Rattle.share_part.specs.Shards.{IsStill, PartShardState, with_held}
 use Rattle.share_part.specs.Tables.{table_of}
@@ -52,7 +56,7 @@ pub record HasNoRoom (Leaves : ShareStates → Type 0) (end : ℕ) (old : PartSh
   pub frame : List ℕ
   pub is_before : states_of before ≡ old.states
   pub is_after : Leaves (states_of after)
-  pub accepted : Accepts before frame after
+  pub accepted : GoesTo before frame after
   pub fits : IsFrame frame
   pub past : 2 ^ 62 < end + (length frame + 5)
 
@@ -75,21 +79,29 @@ StoresActs conf rose end old group acts new None = (NameNone acts × IsStill old
 StoresActs conf rose end old group acts new (Some Device) = NameOne acts × rose × IsNotStored (AreSettled conf old group acts) old new
 StoresActs conf rose end old group acts new (Some (Full at)) = NameOne acts × (at ≡ end) × IsStill old new × HasNoRoomFor conf end old group acts
 
--- each offset that is named is held by the member
+-- each offset that is named from the log's start on is held by the member
 abbrev pub AreTheirs : PartShardState → Visit → Type 0
-AreTheirs old visit = IsWellFormed visit.acks × AreHeldBy visit.member (kind_at visit.acks) (old.held visit.group)
+AreTheirs old visit = IsWellFormed visit.acks × AreHeldBy visit.member (named_from old.log.start visit.acks) (old.held visit.group)
 
 -- the acknowledgements of a visit, by their answer
 abbrev pub Acknowledges : PartConfParts → (rose : Type 0) → (end : ℕ) → PartShardState → Visit → PartShardState → AckOutcome → Type 0
 Acknowledges conf rose end old visit new (Malformed fault) = IsFirstFault visit.acks fault × IsStill old new
 Acknowledges conf rose end old visit new (NotHeld offset) =
-    IsWellFormed visit.acks × IsLeastMissing visit.member (kind_at visit.acks) (old.held visit.group) offset × IsStill old new
-Acknowledges conf rose end old visit new Done = AreTheirs old visit × StoresActs conf rose end old visit.group (kind_at visit.acks) new None
+    IsWellFormed visit.acks × IsLeastMissing visit.member (named_from old.log.start visit.acks) (old.held visit.group) offset × IsStill old new
+Acknowledges conf rose end old visit new Done = AreTheirs old visit × StoresActs conf rose end old visit.group (named_from old.log.start visit.acks) new None
 Acknowledges conf rose end old visit new (Store fault) =
-    AreTheirs old visit × StoresActs conf rose end old visit.group (kind_at visit.acks) new (Some fault)
+    AreTheirs old visit × StoresActs conf rose end old visit.group (named_from old.log.start visit.acks) new (Some fault)
 
--- Contents of the two state disks, found at a moment of a call that stores the acknowledgements of a visit and tries no checkpoint: they
--- stand for the states at entry, with or without the write that was pending then, or for those with the acknowledgements.
+-- the contents of the two state disks stand for states that are these, once each that starts below this offset starts there
+abbrev pub AreStatesFrom : (start : ℕ) → (first second : List ℕ) → ShareStates → Type 0
+AreStatesFrom start first second states =
+    (written : ShareStates) × AreStates first second written × (states ≡ raised_states start written)
+
+-- Contents of the two state disks, found at a moment of a call that stores the acknowledgements of a visit and tries no checkpoint. Raised
+-- to where the log starts, they stand for the states at entry, with or without the write that was pending then, or for those with the
+-- acknowledgements.
 abbrev pub AreWithinAcks : PartConfParts → PartShardState → Visit → (first second : List ℕ) → Type 0
-AreWithinAcks conf old visit first second = WithPending (AreStates first second) old.states old.pending
-    ⊎ ((states : ShareStates) × AreTheirs old visit × AreSettled conf old visit.group (kind_at visit.acks) states × AreStates first second states)
+AreWithinAcks conf old visit first second =
+    WithPending (AreStatesFrom old.log.start first second) old.states old.pending
+    ⊎ ((states : ShareStates) × AreTheirs old visit × AreSettled conf old visit.group (named_from old.log.start visit.acks) states
+    × AreStatesFrom old.log.start first second states)

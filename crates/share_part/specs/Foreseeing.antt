@@ -7,7 +7,7 @@ use Rattle.std.specs.BTreeMap.{is_at}
 use Rattle.std.specs.Cmp.Lexicographic.{slice_cmp}
 use Rattle.std.specs.Map.{lookup}
 use Rattle.std.specs.Ordering.{nat_cmp}
-use Rattle.ack_ranges.specs.Batches.{IsWellFormed, kind_at}
+use Rattle.ack_ranges.specs.Batches.{IsWellFormed}
 use Rattle.ack_ranges.specs.Faults.{IsFirstFault}
 use Rattle.share_model.specs.Held.{Held}
 use Rattle.share_model.specs.Logs.{Batch}
@@ -21,6 +21,7 @@ use Rattle.share_model.specs.declared.visit.Visit.{Visit}
 use Rattle.share_model.specs.declared.visit.VisitAnswer.{VisitAnswer}
 use Rattle.share_part.specs.Acknowledging.{NameNone, NameOne}
 use Rattle.share_part.specs.Collecting.{IsPlanOf}
+use Rattle.share_part.specs.Named.{named_from}
 use Rattle.share_part.specs.Settling.{Acts, AreHeldBy, Change, IsChange, IsLeastMissing, change_of, held_after, stored_after}
 use Rattle.share_part.specs.Tables.{Table, table_of}
 use Rattle.share_part.specs.Walks.{acquired}
@@ -50,20 +51,22 @@ abbrev pub HasChange : ℕ → Acts → List Batch → Held → Option ShareStat
 HasChange limit acts log held o change =
     (state : ShareState) × (o ≡ Some state) × IsChange limit acts log (table_of state held) change
 
--- what acknowledgements of a member come to for a group that holds this, and has this state, if it has one; `rows` are
--- those that are to be stored
-abbrev pub JudgesGiven : ℕ → (member : List ℕ) → List AckBatch → List Batch → Held → Option ShareState → (rows : List Run) → Acks → Type 0
-JudgesGiven limit member acks log held state rows (Malformed fault) = IsFirstFault acks fault
-JudgesGiven limit member acks log held state rows Empty = IsWellFormed acks × NameNone (kind_at acks)
-JudgesGiven limit member acks log held state rows (NotHeld least) = IsWellFormed acks × NameOne (kind_at acks)
-    × IsLeastMissing member (kind_at acks) held least
-JudgesGiven limit member acks log held state rows (Changes moved) = IsWellFormed acks × NameOne (kind_at acks)
-    × AreHeldBy member (kind_at acks) held
-    × HasChange limit (kind_at acks) log held state (change_of moved rows)
+-- what acknowledgements of a member come to, where the log starts there, for a group that holds this, and has this state, if it has one;
+-- `rows` are those that are to be stored
+abbrev pub JudgesGiven : ℕ → (start : ℕ) → (member : List ℕ) → List AckBatch → List Batch → Held → Option ShareState → (rows : List Run) → Acks
+    → Type 0
+JudgesGiven limit start member acks log held state rows (Malformed fault) = IsFirstFault acks fault
+JudgesGiven limit start member acks log held state rows Empty = IsWellFormed acks × NameNone (named_from start acks)
+JudgesGiven limit start member acks log held state rows (NotHeld least) = IsWellFormed acks × NameOne (named_from start acks)
+    × IsLeastMissing member (named_from start acks) held least
+JudgesGiven limit start member acks log held state rows (Changes moved) = IsWellFormed acks × NameOne (named_from start acks)
+    × AreHeldBy member (named_from start acks) held
+    × HasChange limit (named_from start acks) log held state (change_of moved rows)
 
 -- the same of those of a visit
-abbrev pub JudgesAcks : ℕ → Visit → List Batch → Held → Option ShareState → (rows : List Run) → Acks → Type 0
-JudgesAcks limit visit log held state rows acks = JudgesGiven limit visit.member visit.acks log held state rows acks
+abbrev pub JudgesAcks : ℕ → (start : ℕ) → Visit → List Batch → Held → Option ShareState → (rows : List Run) → Acks → Type 0
+JudgesAcks limit start visit log held state rows acks =
+    JudgesGiven limit start visit.member visit.acks log held state rows acks
 
 -- a group's window is there, and has memory set aside for so many more holds
 abbrev pub HasSpare : {W : Type 0} → (W → ℕ) → List (List ℕ × W) → List ℕ → ℕ → Type 0
@@ -76,13 +79,13 @@ abbrev pub HasRoomFor : {W : Type 0} → (W → ℕ) → List (List ℕ × W) �
 HasRoomFor spare windows group out plan = HasSpare spare windows group plan.count × (plan.size ≤ out.spare)
 
 -- where the acknowledgements change something, what a fetch will take behind that
-abbrev pub MovesBy : ℕ → Visit → List Batch → Table → Limits → (rows : List Run) → Acks → Option Plan → Type 0
-MovesBy limit visit log table limits rows (Malformed fault) moves = moves ≡ None
-MovesBy limit visit log table limits rows Empty moves = moves ≡ None
-MovesBy limit visit log table limits rows (NotHeld least) moves = moves ≡ None
-MovesBy limit visit log table limits rows (Changes moved) None = ⊥
-MovesBy limit visit log table limits rows (Changes moved) (Some plan) =
-    IsPlanBehind limit (kind_at visit.acks) log table (change_of moved rows) limits plan
+abbrev pub MovesBy : ℕ → (start : ℕ) → Visit → List Batch → Table → Limits → (rows : List Run) → Acks → Option Plan → Type 0
+MovesBy limit start visit log table limits rows (Malformed fault) moves = moves ≡ None
+MovesBy limit start visit log table limits rows Empty moves = moves ≡ None
+MovesBy limit start visit log table limits rows (NotHeld least) moves = moves ≡ None
+MovesBy limit start visit log table limits rows (Changes moved) None = ⊥
+MovesBy limit start visit log table limits rows (Changes moved) (Some plan) =
+    IsPlanBehind limit (named_from start visit.acks) log table (change_of moved rows) limits plan
 
 -- few enough grants that an answer can tell them
 abbrev pub IsTold : Plan → Type 0
@@ -97,11 +100,11 @@ pub record IsPrepared {W : Type 0} (spare : W → ℕ) (windows : List (List ℕ
   pub told : IsTold plan
 
 -- a fetch of a group that has this table is ready, whatever becomes of the write before it
-pub record IsReady {W : Type 0} (spare : W → ℕ) (windows : List (List ℕ × W)) (limit : ℕ) (visit : Visit)
+pub record IsReady {W : Type 0} (spare : W → ℕ) (windows : List (List ℕ × W)) (limit start : ℕ) (visit : Visit)
     (log : List Batch) (table : Table) (rows : List Run) (acks : Acks) (limits : Limits) (ready : Ready) : Type 0 where
   pub empty : ready.out.bytes ≡ []
   pub stays : IsPlanOf log ready.stays (acquired log table limits)
-  pub moves : MovesBy limit visit log table limits rows acks ready.moves
+  pub moves : MovesBy limit start visit log table limits rows acks ready.moves
   pub room : HasRoomFor spare windows visit.group ready.out ready.stays
   pub room_behind : IfSome ready.moves (HasRoomFor spare windows visit.group ready.out)
   pub told : IsTold ready.stays

@@ -1,14 +1,14 @@
 -- Which share-partition states a hosted partition may have on its disks, and what its three disks stand for. This project's own.
 -- Worked example: with an empty log, a state of `g` on this partition with start 0 and no rows may be there, and one
 -- with start 1 may not. With a log of one batch from 0 to 2 that starts at 2, one with start 2 may, and one with start 1
--- may not.
+-- may not; where the state disks give it start 1, it is raised to 2.
 use Rattle.std.specs.Prelude.{◌≡◌, ◌≤◌, ◌^◌, ℕ, pos, List, [], Option, Some, None}
 use Rattle.std.specs.List.{Contains}
 use Rattle.share_model.specs.ForeignRules.{ShareStates, share_state_at, size_of}
 use Rattle.share_model.specs.Held.{Held, hold_at}
 use Rattle.share_model.specs.Keys.{KeyParts}
 use Rattle.share_model.specs.Logs.{Batch, end_of}
-use Rattle.share_model.specs.Runs.{row_at}
+use Rattle.share_model.specs.Runs.{IsCanonical, row_at}
 use Rattle.share_model.specs.ShareStates.{ShareState}
 use Rattle.share_model.specs.declared.hold.Hold.{Hold}
 use Rattle.share_model.specs.declared.reset.Reset.{Reset}
@@ -16,6 +16,7 @@ use Rattle.share_model.specs.declared.row.Row.{Row}
 use Rattle.share_model.specs.declared.row.RowState.TheVariants.{Available}
 use Rattle.part_log.specs.Logs.{IsLogText, IsStoredLog}
 use Rattle.part_log.specs.Starts.{Log}
+use Rattle.share_coord.specs.Raising.{raised_states}
 use Rattle.share_coord.specs.States.{AreStates, states_of}
 use Rattle.share_coord.specs.Stored.{Entries}
 use Rattle.share_part.specs.Slots.{slots_from}
@@ -44,6 +45,7 @@ pub record IsHosted (conf : PartConfParts) (log : Log) (key : KeyParts) (state :
   pub key_is : key ≡ key_of conf key.group
   pub epochs : (state.state_epoch ≡ pos 0) × (state.leader_epoch ≡ pos 0)
   pub start : (start : ℕ) × (state.start ≡ pos start) × (log.start ≤ start) × (start ≤ end_of log.batches)
+  pub canonical : IsCanonical state.runs
   pub rows : (offset : ℕ) (row : Row) → row_at state.runs offset ≡ Some row →
       IsHostedRow log.batches (size_of state.start) offset row
 
@@ -73,10 +75,13 @@ AreFree (Some state) held = (offset : ℕ) (hold : Hold) (row : Row) → hold_at
 abbrev pub KeepsHolds : List Batch → Option ShareState → Held → Type 0
 KeepsHolds log state held = HoldsWell log state held × AreFree state held
 
--- the contents of the three disks stand for this log and these states
+-- The contents of the three disks stand for this log and these states: those of the two state disks, of which each that starts below the log's
+-- start has that, and no row below it. The rules on a hosted partition are tried behind this.
 pub record ArePartText (conf : PartConfParts) (log first second : List ℕ) (is : Log) (states : ShareStates) : Type 0 where
   pub log_is : IsLogText log is
-  pub states_are : AreStates first second states
+  pub written : ShareStates
+  pub states_are : AreStates first second written
+  pub raised_is : states ≡ raised_states is.start written
   pub hosted : AreHosted conf is states
 
 -- what the parts of a shard in memory keep: the log is sound, the states are ones that the partition may have, each

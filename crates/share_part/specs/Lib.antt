@@ -1,6 +1,7 @@
 pub mod Slots
 pub mod Tables
 pub mod Settling
+pub mod Named
 pub mod Acting
 pub mod Walks
 pub mod Budgets
@@ -19,6 +20,7 @@ pub mod Foreseeing
 pub mod Storing
 pub mod Writes
 pub mod Once
+pub mod Deleting
 pub mod Faults
 pub mod Leaving
 pub mod Opening

@@ -6,6 +6,7 @@ use Rattle.edge_io.specs.Causes.{Rose}
 use Rattle.edge_io.specs.Moments.{LeavesOnly}
 use Rattle.flex_fields.specs.declared.fault.NoMemory.{NoMemory}
 use Rattle.share_model.specs.Held.{Held}
+use Rattle.share_model.specs.declared.delete.Placed.{Placed}
 use Rattle.share_model.specs.declared.fault.LogFault.{LogFault}
 use Rattle.share_model.specs.declared.fault.LogFault.TheVariants.{Store as log_store, NoMemory as log_memory}
 use Rattle.gate_journal.specs.Journals.{IsQuiet}
@@ -149,14 +150,14 @@ pub record ExpiresOnce {D W : Type 0} (seen : D → DiskView) (holding : W → H
   pub conf : after.conf ≡ before.conf
 
 abbrev pub Produced : {D W : Type 0} → (D → DiskView) → (W → Held) → ℕ → List ℕ → PartParts D W → PartParts D W
-    → Result ℕ LogFault → Type 0
+    → Result Placed LogFault → Type 0
 Produced seen holding now bytes before after result = (old : PartShardState) → Carries seen holding before old → (new : PartShardState)
     × Carries seen holding after new
     × StepsProduce (Rose (seen before.log.journal.disk).faults (seen after.log.journal.disk).faults) before.log.journal.end old now bytes result new
 
 -- A produced batch.
 pub record ProducesOnce {D W : Type 0} (seen : D → DiskView) (holding : W → Held) (now : ℕ) (bytes : List ℕ)
-    (before after : PartParts D W) (result : Result ℕ LogFault) : Type 0 where
+    (before after : PartParts D W) (result : Result Placed LogFault) : Type 0 where
   pub steps : result ≢ Err log_memory → Produced seen holding now bytes before after result
   pub memory : result ≡ Err log_memory → after ≡ before
   -- where it tells no device fault, no call of the log's disk failed

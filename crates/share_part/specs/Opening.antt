@@ -8,6 +8,7 @@ use Rattle.share_model.specs.ForeignRules.{ShareStates}
 use Rattle.share_model.specs.Held.{Held}
 use Rattle.part_log.specs.Logs.{IsLogText, IsNoLogText, log_in}
 use Rattle.part_log.specs.Starts.{Log as PartitionLog}
+use Rattle.share_coord.specs.Raising.{raised_states}
 use Rattle.share_coord.specs.Stored.{AreDamaged}
 use Rattle.share_part.specs.Hosting.{PartConfParts, AreHosted, ArePartText}
 use Rattle.share_coord.specs.States.{AreStates, states_of}
@@ -29,13 +30,13 @@ pub record IsOpened {D W : Type 0} (seen : D → DiskView) (holding : W → Held
       (seen log).content ≡ Some l → (seen a).content ≡ Some x → (seen b).content ≡ Some y →
       ArePartText conf l x y is states → (is ≡ log_in parts.log) × (states ≡ states_of parts.states.entries)
 
--- The states break the rules on a hosted partition.
+-- The states, raised to the log's start, break the rules on a hosted partition.
 pub record AreMisplaced (conf : PartConfParts) (log first second : List ℕ) : Type 0 where
   pub is : PartitionLog
   pub states : ShareStates
   pub is_log : IsLogText log is
   pub are_states : AreStates first second states
-  pub broken : AreHosted conf is states → ⊥
+  pub broken : AreHosted conf is (raised_states is.start states) → ⊥
 
 abbrev pub StandsForLog : List ℕ → Type 0
 StandsForLog log = (is : PartitionLog) × IsLogText log is

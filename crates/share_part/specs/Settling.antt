@@ -110,7 +110,8 @@ pub record IsOpen (log : List Batch) (stored : ℕ → Option Row) (offset : ℕ
   pub slot : IsSlot log offset
   pub open_is : is_closed (stored offset) ≡ false
 
--- the least slot from the old start on that isn't closed, else the log's end
+-- The least slot from the old start on that isn't closed, else the log's end. A table starts where the log does or behind, so these are slots of
+-- the log.
 abbrev pub IsNextStart : List Batch → (ℕ → Option Row) → ℕ → ℕ → Type 0
 IsNextStart log stored start next =
     (IsOpen log stored next × (start ≤ next) × ((offset : ℕ) → start ≤ offset → IsOpen log stored offset → next ≤ offset))

@@ -3,8 +3,8 @@
 -- the shard was handed.
 -- Worked example: a log has one batch from 0 to 2, `g` has no table, and a new group begins at 0. Then the new table of `g` has start 0 and no
 -- rows. A batch that is produced at 5000 raises the clock from 0 to 5000, and one at 1000 leaves it there.
-use Rattle.std.specs.Prelude.{◌≡◌, ◌≢◌, ◌-◌, ◌^◌, max, ℕ, pos, List, [], Option, Some, None, Result, nat_le, if◌then◌else◌}
-use Rattle.std.specs.Option.{option_map}
+use Rattle.std.specs.Prelude.{◌≡◌, ◌-◌, ◌^◌, max, ℕ, pos, List, [], Option, Some, None, Result, Ok, Err, IfOk, nat_le, if◌then◌else◌}
+use Rattle.std.specs.Option.{IfSome, option_map}
 use Rattle.std.specs.BTreeMap.{insert_entry, is_at}
 use Rattle.std.specs.Cmp.Lexicographic.{slice_cmp}
 use Rattle.std.specs.Map.{lookup}
@@ -14,16 +14,17 @@ use Rattle.share_model.specs.Held.{Held}
 use Rattle.share_model.specs.Keys.{key_cmp}
 use Rattle.share_model.specs.Logs.{end_of}
 use Rattle.share_model.specs.ShareStates.{ShareState}
+use Rattle.share_model.specs.declared.delete.Placed.{Placed}
 use Rattle.share_model.specs.declared.fault.LogFault.{LogFault}
 use Rattle.share_model.specs.declared.reset.Reset.{Reset}
 use Rattle.share_model.specs.declared.reset.Reset.TheVariants.{Latest, Earliest}
 use Rattle.part_log.specs.Logs.{LogParts}
 use Rattle.part_log.specs.Shards.{LogShardState, CarriesLog, StepsLog, log_at}
 use Rattle.part_log.specs.Starts.{Log}
-use Rattle.part_log.specs.Starts.LogWrite.{Marks}
 use Rattle.share_coord.specs.Holding.{Holds}
 use Rattle.share_coord.specs.Parts.{StoreParts}
 use Rattle.share_coord.specs.Stored.{Entries}
+use Rattle.share_coord.specs.Unwritten.{AreLevel}
 use Rattle.share_part.specs.Hosting.{PartConfParts, AreHosted, key_of}
 use Rattle.share_coord.specs.States.{states_of}
 use Rattle.edge_io.specs.Views.{DiskView}
@@ -82,12 +83,23 @@ raised_to now old = record { log = old.log; states = old.states; pending = old.p
 
 -- ---- a produced batch
 
--- A batch that is produced at the moment `now`: a step of the log. `rose` says that the count of faults of the log's disk rose, `end` is
--- where its journal ends.
-pub record StepsProduce (rose : Type 0) (end : ℕ) (old : PartShardState) (now : ℕ) (bytes : List ℕ) (result : Result ℕ LogFault)
+-- what is told of a batch that was added to a log which starts there, or wasn't
+abbrev pub placed_at : (start : ℕ) → Result ℕ LogFault → Result Placed LogFault
+placed_at start (Ok base) = Ok (record { base = base; start = start })
+placed_at start (Err fault) = Err fault
+
+-- the base that is told, or the fault
+abbrev pub base_in : Result Placed LogFault → Result ℕ LogFault
+base_in (Ok placed) = Ok placed.base
+base_in (Err fault) = Err fault
+
+-- A batch that is produced at the moment `now`: a step of the log, which is told with its base and the log's start. `rose` says that the count
+-- of faults of the log's disk rose, `end` is where its journal ends.
+pub record StepsProduce (rose : Type 0) (end : ℕ) (old : PartShardState) (now : ℕ) (bytes : List ℕ) (result : Result Placed LogFault)
     (new : PartShardState) : Type 0 where
   pub clock : new.clock ≡ max old.clock now
-  pub log : StepsLog rose end old.log bytes result new.log
+  pub log : StepsLog rose end old.log bytes (base_in result) new.log
+  pub start : IfOk result (λ placed. placed.start ≡ old.log.start)
   pub still : IsStill old new
 
 -- ---- the shard in memory
@@ -142,5 +154,6 @@ pub record Carries {D W : Type 0} (seen : D → DiskView) (holding : W → Held)
   pub clock : shard.clock ≡ parts.clock
   pub hosted : AreHosted parts.conf (log_at shard.log) shard.states
   pub pending_hosted : IsPendingHosted parts.conf (log_at shard.log) shard.pending
-  -- no mark is pending, as no call writes one
-  pub unmarked : (start : ℕ) → shard.log.pending ≢ Some (Marks start)
+  -- where a table's start was raised since it was written, it is the log's
+  pub level : AreLevel shard.log.start parts.states.entries
+  pub pending_level : IfSome pending (AreLevel shard.log.start)

@@ -8,15 +8,17 @@ use Rattle.share_model.specs.Keys.{KeyParts}
 use Rattle.share_model.specs.Logs.{Batch}
 use Rattle.share_model.specs.Runs.{IsCanonical}
 use Rattle.share_model.specs.ShareStates.{ShareState}
-use Rattle.ack_ranges.specs.Batches.{IsWellFormed, kind_at}
+use Rattle.ack_ranges.specs.Batches.{IsWellFormed}
 use Rattle.ack_ranges.specs.Faults.{IsFirstFault}
 use Rattle.share_model.specs.declared.ack.AckBatch.{AckBatch}
 use Rattle.share_model.specs.declared.ack.AckFault.{AckFault}
 use Rattle.share_model.specs.declared.visit.AckOutcome.{AckOutcome}
 use Rattle.share_model.specs.declared.visit.AckOutcome.TheVariants.{Done, Malformed, NotHeld, Store as refused}
+use Rattle.part_log.specs.Starts.{Log}
 use Rattle.share_part.specs.Acknowledging.{NameNone, NameOne}
 use Rattle.share_part.specs.Hosting.{PartConfParts, key_of}
 use Rattle.share_coord.specs.States.{states_of}
+use Rattle.share_part.specs.Named.{named_from}
 use Rattle.share_part.specs.Settling.{Acts, AreHeldBy, Change, IsChange, IsLeastMissing}
 use Rattle.share_part.specs.Tables.{table_of}
 use Rattle.share_model.specs.declared.fault.StoreFault.{StoreFault}
@@ -41,7 +43,7 @@ start_number (Some start) = pos start
 abbrev pub IsStored : Entries → KeyParts → Option ℕ → List Run → Entries → Type 0
 IsStored old key start runs new = IsWritten old key (pos 0) (pos 0) (start_number start) runs new
 
--- the record that it stores: the rows as they are given, and the start, or -1 where it doesn't move
+-- the record that it stores: the rows as they are given, and the start, or -1 where it doesn't move and wasn't raised
 abbrev pub IsRecordOf : Entries → KeyParts → Option ℕ → List Run → StateRecord → Type 0
 IsRecordOf old key start runs one = IsWriteRecord old key (pos 0) (pos 0) (start_number start) runs one
 
@@ -112,20 +114,20 @@ SettlesGroup seen Failed conf log group member acts was old new same ends Done =
 SettlesGroup seen Failed conf log group member acts was old new same ends (refused fault) =
     AreHeldBy member acts was × StoresGroup seen Failed conf log group acts was old new same ends (Some fault)
 
--- The acknowledgements of a visit: they aren't well formed, or name no offset, or are done for the group. `still` says that nothing changed,
--- and `Settles` what is done for the group.
-abbrev pub AcksOnce : List AckBatch → (still : Type 0) → (AckOutcome → Type 0) → AckOutcome → Type 0
-AcksOnce acks still Settles ack = ((fault : AckFault) × (ack ≡ Malformed fault) × IsFirstFault acks fault × still)
-    ⊎ ((IsWellFormed acks × NameNone (kind_at acks) × (ack ≡ Done) × still)
-    ⊎ (IsWellFormed acks × NameOne (kind_at acks) × Settles ack))
+-- Acknowledgements, where the log starts there: they aren't well formed, or name no offset from there on, or are done for the group.
+-- `still` says that nothing changed, and `Settles` what is done for the group.
+abbrev pub AcksOnce : (start : ℕ) → List AckBatch → (still : Type 0) → (AckOutcome → Type 0) → AckOutcome → Type 0
+AcksOnce start acks still Settles ack = ((fault : AckFault) × (ack ≡ Malformed fault) × IsFirstFault acks fault × still)
+    ⊎ ((IsWellFormed acks × NameNone (named_from start acks) × (ack ≡ Done) × still)
+    ⊎ (IsWellFormed acks × NameOne (named_from start acks) × Settles ack))
 
 -- what the write of acknowledgements leaves of the store: they are well formed, and of what the member holds
-pub record IsAcksWritten (conf : PartConfParts) (log : List Batch) (group member : List ℕ) (acks : List AckBatch) (held : Held)
+pub record IsAcksWritten (conf : PartConfParts) (log : Log) (group member : List ℕ) (acks : List AckBatch) (held : Held)
     (old new : Entries) : Type 0 where
   pub formed : IsWellFormed acks
-  pub theirs : AreHeldBy member (kind_at acks) held
+  pub theirs : AreHeldBy member (named_from log.start acks) held
   pub state : ShareState
   pub change : Change
   pub known : share_state_at (states_of old) (key_of conf group) ≡ Some state
-  pub is : IsChange conf.limit (kind_at acks) log (table_of state held) change
+  pub is : IsChange conf.limit (named_from log.start acks) log.batches (table_of state held) change
   pub stored : IsStored old (key_of conf group) change.start change.runs new

@@ -3,7 +3,6 @@
 -- Worked example: `a` holds 0 and 1 of a log from 0 to 2. A visit of `a` accepts 0 and fetches one record: a start of 1 is stored, the hold of
 -- 0 ends, and then 2 is acquired.
 use Rattle.std.specs.Prelude.{◌≡◌, ◌≤◌, max, ℕ, List, []}
-use Rattle.ack_ranges.specs.Batches.{kind_at}
 use Rattle.share_model.specs.declared.visit.AckOutcome.{AckOutcome}
 use Rattle.share_model.specs.declared.ack.AckBatch.{AckBatch}
 use Rattle.share_model.specs.declared.visit.Then.TheVariants.{Nothing}
@@ -14,6 +13,7 @@ use Rattle.edge_io.specs.Causes.{Rose}
 use Rattle.share_part.specs.Acknowledging.{Acknowledges, AreTheirs, NameOne}
 use Rattle.share_part.specs.Following.{Follows, HasNothingToWrite, Reading}
 use Rattle.share_part.specs.Hosting.{PartConfParts}
+use Rattle.share_part.specs.Named.{named_from}
 use Rattle.share_part.specs.Shards.{PartShardState}
 
 -- the acknowledgements are done, and the log and the clock are as they were
@@ -23,9 +23,9 @@ pub record StepsAcks (conf : PartConfParts) (rose : Type 0) (end : ℕ) (old : P
   pub clock : new.clock ≡ old.clock
   pub does : Acknowledges conf rose end old visit new ack
 
--- there are acknowledgements to write: they are of what the member holds, and name an offset
+-- there are acknowledgements to write: they are of what the member holds, and name an offset from the log's start on
 abbrev pub AreToWrite : PartShardState → Visit → Type 0
-AreToWrite old visit = AreTheirs old visit × NameOne (kind_at visit.acks)
+AreToWrite old visit = AreTheirs old visit × NameOne (named_from old.log.start visit.acks)
 
 -- the visit of a member with acknowledgements that asks for nothing more, and its answer
 abbrev pub acks_alone : (group member : List ℕ) → List AckBatch → Visit

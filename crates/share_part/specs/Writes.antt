@@ -1,13 +1,13 @@
 -- Which records the calls on a shard store: one a write, and a write for each list of acts and each new table
 -- (KIP-932 stores a share group's state as snapshots and updates; what an update holds is this project's own).
 -- Acts on a group's table store an update with the rows that they changed, from the new start on, and with -1 in
--- place of the start where it stays; behind 500 updates it is a snapshot of the whole table. A new table is stored
--- as a snapshot with its start and no rows.
+-- place of the start where it stays, unless a delete has raised it since the table's last record; behind 500 updates it
+-- is a snapshot of the whole table. A new table is stored as a snapshot with its start and no rows.
 -- Worked example: a log has one batch from 0 to 9, the start is 0, nothing is stored, and `a` holds 0 to 9 with count
 -- 1. An accept of 3 stores an update with start -1 and the row of 3. An accept of 0 behind it stores an update with
--- start 1 and no rows: that of 3 isn't stored again.
+-- start 1 and no rows: that of 3 isn't stored again. A delete of 5 stores nothing of the table, and an accept of 7 behind
+-- it stores an update with start 5 and the row of 7.
 use Rattle.std.specs.Prelude.{◌≡◌, ◌≢◌, ◌⊎◌, ◌++◌, ℕ, List, [], ◌∷◌, Option, Some, None, Result, Ok, Err, Bool, true, false}
-use Rattle.ack_ranges.specs.Batches.{kind_at}
 use Rattle.coord_checkpoint.specs.Disks.{HasFailed}
 use Rattle.edge_io.specs.Views.{DiskView}
 use Rattle.flex_fields.specs.declared.fault.NoMemory.{NoMemory}
@@ -32,6 +32,7 @@ use Rattle.share_part.specs.Failures.{AreQuiet}
 use Rattle.share_part.specs.Following.{fault_of, releases_of}
 use Rattle.share_part.specs.Hosting.{PartConfParts}
 use Rattle.share_part.specs.Making.{MakesTableOnce}
+use Rattle.share_part.specs.Named.{named_from}
 use Rattle.share_part.specs.Settling.{Acts, held_after}
 use Rattle.share_part.specs.Storing.{IsActsStored}
 
@@ -47,21 +48,21 @@ WritesActs seen conf log group acts was old new (Some fault) =
 -- ---- a visit
 
 -- the acknowledgements, by their answer
-abbrev pub WritesAcks : {D : Type 0} → (D → DiskView) → PartConfParts → (log : List Batch) → Visit → (was : Held)
+abbrev pub WritesAcks : {D : Type 0} → (D → DiskView) → PartConfParts → (log : Log) → Visit → (was : Held)
     → (old new : StoreParts D) → AckOutcome → Type 0
 WritesAcks seen conf log visit was old new (Malformed fault) = new ≡ old
 WritesAcks seen conf log visit was old new (NotHeld offset) = new ≡ old
 WritesAcks seen conf log visit was old new Done =
-    WritesActs seen conf log visit.group (kind_at visit.acks) was old new None
+    WritesActs seen conf log.batches visit.group (named_from log.start visit.acks) was old new None
 WritesAcks seen conf log visit was old new (Store fault) =
-    WritesActs seen conf log visit.group (kind_at visit.acks) was old new (Some fault)
+    WritesActs seen conf log.batches visit.group (named_from log.start visit.acks) was old new (Some fault)
 
 -- what the group holds behind them
-abbrev pub held_behind : Visit → Held → AckOutcome → Held
-held_behind visit was (Malformed fault) = was
-held_behind visit was (NotHeld offset) = was
-held_behind visit was Done = held_after (kind_at visit.acks) was
-held_behind visit was (Store fault) = was
+abbrev pub held_behind : (start : ℕ) → Visit → Held → AckOutcome → Held
+held_behind start visit was (Malformed fault) = was
+held_behind start visit was (NotHeld offset) = was
+held_behind start visit was Done = held_after (named_from start visit.acks) was
+held_behind start visit was (Store fault) = was
 
 -- what follows them, by what became of its write
 abbrev pub WritesThen : {D : Type 0} → (D → DiskView) → PartConfParts → (log : Log) → Visit → (was : Held)
@@ -82,8 +83,8 @@ pub record WritesVisit {D : Type 0} (unread : Bool) (seen : D → DiskView) (con
     (visit : Visit) (was : Held) (old new : StoreParts D) (answer : VisitAnswer) : Type 0 where
   -- the states between the two writes
   pub between : StoreParts D
-  pub acks : WritesAcks seen conf log.batches visit was old between answer.ack
-  pub follows : WritesThen seen conf log visit (held_behind visit was answer.ack) between new
+  pub acks : WritesAcks seen conf log visit was old between answer.ack
+  pub follows : WritesThen seen conf log visit (held_behind log.start visit was answer.ack) between new
       (write_outcome unread answer.then) visit.then
   -- where no store fault was met by one of both, no call of the state disks failed in it, but those of a checkpoint
   pub quiet_acks : ((fault : StoreFault) → answer.ack ≢ Store fault) → AreQuiet seen old between

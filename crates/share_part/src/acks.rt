@@ -2,13 +2,14 @@
 ghost use Rattle.std.specs.Prelude.{◌≡◌, ◌≤◌, ◌<◌, ◌^◌, ℕ, List, None, IfSome, IfNone, false, length};
 ghost use Rattle.coord_checkpoint.specs.Disks.{HasFailed};
 ghost use Rattle.topic_conf.specs.Configs.{IsLimit};
-ghost use Rattle.ack_ranges.specs.Batches.{IsWellFormed, kind_at};
+ghost use Rattle.ack_ranges.specs.Batches.{IsWellFormed};
 ghost use Rattle.offset_runs.specs.Changes.{room_of};
 ghost use Rattle.part_log.specs.Logs.{IsStoredLog, log_in};
 ghost use Rattle.share_model.specs.Acks.{types_in};
 ghost use Rattle.share_model.specs.ForeignRules.{share_state_at};
 ghost use Rattle.share_part.specs.Acting.{IsFirstNamed, JudgesGroup};
 ghost use Rattle.share_part.specs.Hosting.{AreHosted, HoldsWell, key_of};
+ghost use Rattle.share_part.specs.Named.{named_from};
 ghost use Rattle.share_coord.specs.States.{states_of};
 ghost use Rattle.share_part.specs.Settling.{held_after};
 ghost use Rattle.share_part.specs.Shards.{held_in, with_held};
@@ -20,9 +21,10 @@ ghost use Rattle.share_part.specs.Failures.{RunOnBoth};
 use crate::conf::PartConf;
 use crate::ending::end_acknowledged;
 use crate::fetch::start_of;
+use crate::named::Named;
 use crate::settle::{Judged, Moved, acknowledge};
 use crate::storing::store_change;
-use ack_ranges::{Pieces, check};
+use ack_ranges::check;
 use edge_io::Disk;
 use lock_index::Window;
 use offset_runs::Runs;
@@ -36,7 +38,7 @@ use std::collections::BTreeMap;
 pub enum Acks {
     /// They aren't well formed.
     Malformed(AckFault),
-    /// There are none, or they name no offset.
+    /// They name no offset from the log's start on.
     Empty,
     /// The member doesn't hold this offset, the least such one.
     NotHeld(u64),
@@ -44,13 +46,13 @@ pub enum Acks {
     Changes(Moved),
 }
 
-// The least offset that well-formed acknowledgements name. `None` where they name none.
-pub fn first_named(batches: &[AckBatch]) -> Option<u64>
+// The least offset that well-formed acknowledgements name from the log's start on. `None` where they name none.
+pub fn first_named<D: Disk>(log: &PartLog<D>, batches: &[AckBatch]) -> Option<u64>
     requires { IsWellFormed batches.now }
-    ensures some { IfSome result (IsFirstNamed (kind_at batches.now)) }
-    ensures none { IfNone result ((offset : ℕ) → kind_at batches.now offset ≡ None) }
+    ensures some { IfSome result (IsFirstNamed (named_from log.now.start batches.now)) }
+    ensures none { IfNone result ((offset : ℕ) → named_from log.now.start batches.now offset ≡ None) }
 {
-    let mut pieces = Pieces::new(batches);
+    let mut pieces = Named::new(batches, log.start());
     match pieces.next_piece() {
         Some(piece) => Some(piece.first),
         None => None,
@@ -73,12 +75,12 @@ fn judge_group<D: Disk, W: Window>(
     requires sound { IsStoredLog log.now.batches }
     requires hosted { AreHosted conf.now (log_in log.now) (states_of states.now.entries) }
     requires well_formed { IsWellFormed batches.now }
-    requires first { IsFirstNamed (kind_at batches.now) first }
+    requires first { IsFirstNamed (named_from log.now.start batches.now) first }
     requires well { HoldsWell log.now.batches
         (share_state_at (states_of states.now.entries) (key_of conf.now group.now))
         (held_in W.held windows.now.entries group.now) }
     requires room { 4000 ≤ room_of rows.old }
-    ensures judged { JudgesGroup conf.now.limit member.now (kind_at batches.now) log.now.batches
+    ensures judged { JudgesGroup conf.now.limit member.now (named_from log.now.start batches.now) log.now.batches
         (held_in W.held windows.now.entries group.now)
         (share_state_at (states_of states.now.entries) (key_of conf.now group.now)) rows.new.list result }
     ensures canonical { (moved : Moved) → result ≡ Judged.Changes moved →
@@ -108,8 +110,9 @@ fn judge_group<D: Disk, W: Window>(
     }
 }
 
-/// What acknowledgements of a member of a group come to. The rows that they change are put into `rows`, which has memory
-/// for those of all that a group holds: two runs for each of 2000 records. It takes none.
+/// What acknowledgements of a member of a group come to; what they say of offsets below the log's start is passed over.
+/// The rows that they change are put into `rows`, which has memory for those of all that a group holds: two runs for
+/// each of 2000 records. It takes none.
 pub fn judge_given<D: Disk, W: Window>(
     rows: &mut Runs,
     conf: &PartConf,
@@ -128,7 +131,7 @@ pub fn judge_given<D: Disk, W: Window>(
         (share_state_at (states_of states.now.entries) (key_of conf.now group.now))
         (held_in W.held windows.now.entries group.now) }
     requires room { 4000 ≤ room_of rows.old }
-    ensures judged { JudgesGiven conf.now.limit member.now batches.now log.now.batches
+    ensures judged { JudgesGiven conf.now.limit log.now.start member.now batches.now log.now.batches
         (held_in W.held windows.now.entries group.now)
         (share_state_at (states_of states.now.entries) (key_of conf.now group.now)) rows.new.list result }
     ensures canonical { (moved : Moved) → result ≡ Acks.Changes moved →
@@ -138,7 +141,7 @@ pub fn judge_given<D: Disk, W: Window>(
     if let Err(fault) = check(batches) {
         return Acks::Malformed(fault);
     }
-    let Some(first) = first_named(batches) else {
+    let Some(first) = first_named(log, batches) else {
         return Acks::Empty;
     };
     match judge_group(
@@ -152,9 +155,9 @@ pub fn judge_given<D: Disk, W: Window>(
 /// Does acknowledgements of a member of a group, by what they come to, with these rows: all of them by one write, or
 /// none. The holds of the named offsets end once they are stored, and what was set aside for holds stays.
 ///
-/// It takes no memory. Nothing changes where they aren't well formed, or where the member doesn't hold an offset that
-/// they name; after a store fault the table is as it was. Where it `tidies`, a checkpoint that is due is tried before
-/// the write.
+/// It takes no memory. Nothing changes where they aren't well formed, or name no offset from the log's start on, or
+/// where the member doesn't hold one that they name from there on; after a store fault the table is as it was. Where it
+/// `tidies`, a checkpoint that is due is tried before the write.
 pub fn settle_given<D: Disk, W: Window>(
     rows: &Runs,
     conf: &PartConf,
@@ -173,22 +176,22 @@ pub fn settle_given<D: Disk, W: Window>(
     requires well { HoldsWell log.now.batches
         (share_state_at (states_of states.old.entries) (key_of conf.now group.now))
         (held_in W.held windows.old.entries group.now) }
-    requires judged { JudgesGiven conf.now.limit member.now batches.now log.now.batches
+    requires judged { JudgesGiven conf.now.limit log.now.start member.now batches.now log.now.batches
         (held_in W.held windows.old.entries group.now)
         (share_state_at (states_of states.old.entries) (key_of conf.now group.now)) rows.now.list acks.now }
     requires canonical { (moved : Moved) → acks.now ≡ Acks.Changes moved →
         AreCanonical (share_state_at (states_of states.old.entries) (key_of conf.now group.now)) }
     requires room { 6000 ≤ states.old.room }
-    ensures once { AcksOnce batches.now
+    ensures once { AcksOnce log.now.start batches.now
         ((states.new ≡ states.old)
         × ((other : List ℕ) → held_in W.held windows.new.entries other ≡ held_in W.held windows.old.entries other))
         (SettlesGroup D.seen (HasFailed D.seen) conf.now log.now.batches
-        group.now member.now (kind_at batches.now) (held_in W.held windows.old.entries group.now) states.old states.new
+        group.now member.now (named_from log.now.start batches.now) (held_in W.held windows.old.entries group.now) states.old states.new
         ((other : List ℕ) → held_in W.held windows.new.entries other ≡ held_in W.held windows.old.entries other)
         ((other : List ℕ) → held_in W.held windows.new.entries other ≡ with_held (held_in W.held windows.old.entries) group.now
-        (held_after (kind_at batches.now) (held_in W.held windows.old.entries group.now)) other)) result }
+        (held_after (named_from log.now.start batches.now) (held_in W.held windows.old.entries group.now)) other)) result }
     ensures moments { tidies ≡ false → WritesWithin D.seen
-        (IsAcksWritten conf.now log.now.batches group.now member.now batches.now
+        (IsAcksWritten conf.now (log_in log.now) group.now member.now batches.now
         (held_in W.held windows.old.entries group.now) states.old.entries) states.old states.new }
     ensures malformed { (fault : AckFault) → acks.now ≡ Acks.Malformed fault →
         result ≡ AckOutcome.Malformed fault }
@@ -209,7 +212,7 @@ pub fn settle_given<D: Disk, W: Window>(
     if let Some(fault) = fault {
         return AckOutcome::Store(fault);
     }
-    end_acknowledged(windows, group, batches);
+    end_acknowledged(windows, group, batches, log.start());
     AckOutcome::Done
 }
 
@@ -228,7 +231,7 @@ pub fn judge_acks<D: Disk, W: Window>(
         (share_state_at (states_of states.now.entries) (key_of conf.now visit.now.group))
         (held_in W.held windows.now.entries visit.now.group) }
     requires room { 4000 ≤ room_of rows.old }
-    ensures judged { JudgesAcks conf.now.limit visit.now log.now.batches
+    ensures judged { JudgesAcks conf.now.limit log.now.start visit.now log.now.batches
         (held_in W.held windows.now.entries visit.now.group)
         (share_state_at (states_of states.now.entries) (key_of conf.now visit.now.group)) rows.new.list result }
     ensures canonical { (moved : Moved) → result ≡ Acks.Changes moved →
@@ -264,20 +267,20 @@ pub fn settle_acks<D: Disk, W: Window>(
     requires well { HoldsWell log.now.batches
         (share_state_at (states_of states.old.entries) (key_of conf.now visit.now.group))
         (held_in W.held windows.old.entries visit.now.group) }
-    requires judged { JudgesAcks conf.now.limit visit.now log.now.batches
+    requires judged { JudgesAcks conf.now.limit log.now.start visit.now log.now.batches
         (held_in W.held windows.old.entries visit.now.group)
         (share_state_at (states_of states.old.entries) (key_of conf.now visit.now.group)) rows.now.list acks.now }
     requires canonical { (moved : Moved) → acks.now ≡ Acks.Changes moved →
         AreCanonical (share_state_at (states_of states.old.entries) (key_of conf.now visit.now.group)) }
     requires room { 6000 ≤ states.old.room }
-    ensures once { AcksOnce visit.now.acks
+    ensures once { AcksOnce log.now.start visit.now.acks
         ((states.new ≡ states.old)
         × ((other : List ℕ) → held_in W.held windows.new.entries other ≡ held_in W.held windows.old.entries other))
         (SettlesGroup D.seen (HasFailed D.seen) conf.now log.now.batches
-        visit.now.group visit.now.member (kind_at visit.now.acks) (held_in W.held windows.old.entries visit.now.group) states.old states.new
+        visit.now.group visit.now.member (named_from log.now.start visit.now.acks) (held_in W.held windows.old.entries visit.now.group) states.old states.new
         ((other : List ℕ) → held_in W.held windows.new.entries other ≡ held_in W.held windows.old.entries other)
         ((other : List ℕ) → held_in W.held windows.new.entries other ≡ with_held (held_in W.held windows.old.entries) visit.now.group
-        (held_after (kind_at visit.now.acks) (held_in W.held windows.old.entries visit.now.group)) other)) result }
+        (held_after (named_from log.now.start visit.now.acks) (held_in W.held windows.old.entries visit.now.group)) other)) result }
     ensures malformed { (fault : AckFault) → acks.now ≡ Acks.Malformed fault →
         result ≡ AckOutcome.Malformed fault }
     ensures spare { (n : ℕ) → HasSpare W.spare windows.old.entries visit.now.group n →

@@ -4,13 +4,14 @@ ghost use Rattle.std.specs.BTreeMap.{is_at};
 ghost use Rattle.std.specs.Cmp.Lexicographic.{slice_cmp};
 ghost use Rattle.std.specs.Map.{lookup};
 ghost use Rattle.std.specs.Ordering.{nat_cmp};
-ghost use Rattle.ack_ranges.specs.Batches.{IsWellFormed, kind_at};
+ghost use Rattle.ack_ranges.specs.Batches.{IsWellFormed};
 ghost use Rattle.ack_ranges.specs.Pieces.{piece_at};
 ghost use Rattle.share_part.specs.Foreseeing.{HasSpare};
+ghost use Rattle.share_part.specs.Named.{named_from};
 ghost use Rattle.share_part.specs.Settling.{held_after};
 ghost use Rattle.share_part.specs.Shards.{held_in, with_held};
 
-use ack_ranges::Pieces;
+use crate::named::Named;
 use lock_index::{Steps, Window};
 use share_model::{AckBatch, Name};
 use std::collections::BTreeMap;
@@ -18,7 +19,7 @@ use std::marker::Brand;
 use std::sync::ledger::{Blank, Ledger};
 
 // Ends the holds of the offsets of pieces.
-fn end_pieces<W: Window, L: Ledger>(window: &mut W, mut pieces: Pieces<'_>, steps: &mut Steps<L>)
+fn end_pieces<W: Window, L: Ledger>(window: &mut W, mut pieces: Named<'_>, steps: &mut Steps<L>)
     ensures held { W.held window.new ≡ held_after (piece_at pieces.entry) (W.held window.old) }
     ensures spare { W.spare window.old ≤ W.spare window.new }
 {
@@ -28,7 +29,7 @@ fn end_pieces<W: Window, L: Ledger>(window: &mut W, mut pieces: Pieces<'_>, step
 }
 
 // The same in a ledger of its own.
-fn end_in_ledger<W: Window, L: Ledger>(window: &mut W, pieces: Pieces<'_>, blank: Blank)
+fn end_in_ledger<W: Window, L: Ledger>(window: &mut W, pieces: Named<'_>, blank: Blank)
     requires name { blank.name ≡ L.name }
     requires parts { blank.parts ≡ L.parts }
     requires some { 0 < blank.parts }
@@ -39,22 +40,27 @@ fn end_in_ledger<W: Window, L: Ledger>(window: &mut W, pieces: Pieces<'_>, blank
     end_pieces(window, pieces, &mut steps);
 }
 
-/// Ends the holds of the offsets of well-formed acknowledgements, for a group whose window is there. It takes no
-/// memory.
+/// Ends the holds of the offsets that well-formed acknowledgements name from one on, for a group whose window is there.
+/// It takes no memory.
 pub fn end_acknowledged<W: Window>(
     windows: &mut BTreeMap<Name, W>,
     group: &Name,
     batches: &[AckBatch],
+    start: u64,
 )
     requires there { IsSome (lookup (is_at (slice_cmp nat_cmp group.now)) windows.old.entries) }
     requires well_formed { IsWellFormed batches.now }
     ensures spare { (n : ℕ) → HasSpare W.spare windows.old.entries group.now n →
         HasSpare W.spare windows.new.entries group.now n }
     ensures held { (other : List ℕ) → held_in W.held windows.new.entries other ≡ with_held (held_in W.held windows.old.entries) group.now
-        (held_after (kind_at batches.now) (held_in W.held windows.old.entries group.now)) other }
+        (held_after (named_from start batches.now) (held_in W.held windows.old.entries group.now)) other }
 {
     match windows.get_mut(group) {
-        Some(window) => end_in_ledger::<W, Brand>(window, Pieces::new(batches), Blank::new(1)),
+        Some(window) => end_in_ledger::<W, Brand>(
+            window,
+            Named::new(batches, start),
+            Blank::new(1),
+        ),
         None => unreachable!(),
     }
 }

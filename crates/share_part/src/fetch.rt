@@ -12,13 +12,13 @@ ghost use Rattle.share_model.specs.declared.fault.BatchRead.{BatchRead};
 ghost use Rattle.part_log.specs.Logs.{IsStoredLog, log_in};
 ghost use Rattle.share_coord.specs.Calls.{IsInitialised};
 ghost use Rattle.share_coord.specs.Stored.{kept_at};
-ghost use Rattle.ack_ranges.specs.Batches.{kind_at};
 ghost use Rattle.topic_conf.specs.Configs.{IsLimit};
 ghost use Rattle.share_part.specs.Collecting.{IsPlanOf};
 ghost use Rattle.share_part.specs.Foreseeing.{HasChange, IsPlanBehind};
 ghost use Rattle.share_part.specs.Settling.{change_of};
 ghost use Rattle.share_part.specs.Hosting.{AreHosted, HoldsWell, key_of};
 ghost use Rattle.share_coord.specs.States.{states_of};
+ghost use Rattle.share_part.specs.Named.{named_from};
 ghost use Rattle.share_part.specs.Making.{IsTableRecord, MakesOnce, MakesTableOnce, numbered_bytes, state_for};
 ghost use Rattle.share_part.specs.Once.{ReadsBatches};
 ghost use Rattle.share_part.specs.Shards.{first_start, held_in};
@@ -131,11 +131,11 @@ pub fn planned_behind<D: Disk, W: Window>(
     requires well { HoldsWell log.now.batches
         (share_state_at (states_of states.now.entries) (key_of conf.now visit.now.group))
         (held_in W.held windows.now.entries visit.now.group) }
-    requires change { HasChange conf.now.limit (kind_at visit.now.acks) log.now.batches
+    requires change { HasChange conf.now.limit (named_from log.now.start visit.now.acks) log.now.batches
         (held_in W.held windows.now.entries visit.now.group)
         (share_state_at (states_of states.now.entries) (key_of conf.now visit.now.group))
         (change_of moved.now rows.now.list) }
-    ensures is { IfOk result (IsPlanBehind conf.now.limit (kind_at visit.now.acks) log.now.batches
+    ensures is { IfOk result (IsPlanBehind conf.now.limit (named_from log.now.start visit.now.acks) log.now.batches
         (table_of (state_for conf.now (log_in log.now) states.now.entries visit.now.group)
         (held_in W.held windows.now.entries visit.now.group))
         (change_of moved.now rows.now.list) limits) }

@@ -53,10 +53,10 @@ fn planned_moves<D: Disk, W: Window>(
     requires well { HoldsWell log.now.batches
         (share_state_at (states_of states.now.entries) (key_of conf.now visit.now.group))
         (held_in W.held windows.now.entries visit.now.group) }
-    requires judged { JudgesAcks conf.now.limit visit.now log.now.batches
+    requires judged { JudgesAcks conf.now.limit log.now.start visit.now log.now.batches
         (held_in W.held windows.now.entries visit.now.group)
         (share_state_at (states_of states.now.entries) (key_of conf.now visit.now.group)) rows.now.list acks.now }
-    ensures moves { IfOk result (MovesBy conf.now.limit visit.now log.now.batches
+    ensures moves { IfOk result (MovesBy conf.now.limit log.now.start visit.now log.now.batches
         (table_of (state_for conf.now (log_in log.now) states.now.entries visit.now.group)
         (held_in W.held windows.now.entries visit.now.group))
         limits rows.now.list acks.now) }
@@ -105,13 +105,13 @@ pub fn ready<D: Disk, W: Window>(
     requires well { HoldsWell log.now.batches
         (share_state_at (states_of states.now.entries) (key_of conf.now visit.now.group))
         (held_in W.held windows.old.entries visit.now.group) }
-    requires judged { JudgesAcks conf.now.limit visit.now log.now.batches
+    requires judged { JudgesAcks conf.now.limit log.now.start visit.now log.now.batches
         (held_in W.held windows.old.entries visit.now.group)
         (share_state_at (states_of states.now.entries) (key_of conf.now visit.now.group)) rows.now.list acks.now }
     ensures held { (other : List ℕ) →
         held_in W.held windows.new.entries other ≡ held_in W.held windows.old.entries other }
-    ensures ready { IfOk result (IsReady W.spare windows.new.entries conf.now.limit visit.now log.now.batches
-        (table_of (state_for conf.now (log_in log.now) states.now.entries visit.now.group)
+    ensures ready { IfOk result (IsReady W.spare windows.new.entries conf.now.limit log.now.start visit.now
+        log.now.batches (table_of (state_for conf.now (log_in log.now) states.now.entries visit.now.group)
         (held_in W.held windows.old.entries visit.now.group))
         rows.now.list acks.now limits) }
 {

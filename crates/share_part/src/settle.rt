@@ -1,16 +1,18 @@
 // What acts on a table store.
 ghost use Rattle.std.specs.Prelude.{◌≡◌, ◌↔◌, ◌≤◌, ◌<◌, ◌+◌, ◌*◌, ◌^◌, ℕ, [], IfSome, IfNone, length, None, IsTrue};
-ghost use Rattle.ack_ranges.specs.Batches.{IsWellFormed, kind_at};
+ghost use Rattle.ack_ranges.specs.Batches.{IsWellFormed};
 ghost use Rattle.ack_ranges.specs.Pieces.{IsCanonical as AreCanonical, piece_at};
 ghost use Rattle.part_log.specs.Logs.{IsStoredLog};
 ghost use Rattle.share_model.specs.Held.{Held, hold_at};
 ghost use Rattle.offset_runs.specs.Changes.{room_of};
 ghost use Rattle.share_part.specs.Acting.{AreDoneTo, AreHeldSo, AreRows, AreRowsTo, Comes, Ends, HasSpareFrom, IsHeldTo, IsSaid};
+ghost use Rattle.share_part.specs.Named.{named_from};
 ghost use Rattle.share_part.specs.Releasing.{ReleasesTable};
 ghost use Rattle.share_part.specs.Settling.{Acts, AreBelow, IsChange, IsHeldBy, Judges, change_of, is_chosen, releasing, settled};
 
 use crate::advance::advance;
-use ack_ranges::{Piece, Pieces};
+use crate::named::Named;
+use ack_ranges::Piece;
 use edge_io::Disk;
 use lock_index::Window;
 use offset_runs::Runs;
@@ -128,7 +130,7 @@ fn act_on_pieces<W: Window>(
     window: &W,
     member: &Name,
     limit: u16,
-    mut pieces: Pieces<'_>,
+    mut pieces: Named<'_>,
 ) -> Option<u64>
     requires none { rows.old.list ≡ [] }
     requires pieces { AreCanonical pieces }
@@ -205,8 +207,9 @@ fn moved_by<D: Disk>(log: &PartLog<D>, start: u64, stored: &Runs, rows: &mut Run
     Moved { start: Some(next) }
 }
 
-/// What well-formed acknowledgements of a member come to on a table with this start, these rows and these holds. The
-/// rows that they change are put into `rows`, in memory that is set aside; it takes none.
+/// What well-formed acknowledgements of a member come to on a table with this start, these rows and these holds, where
+/// they name offsets from the log's start on. The rows that they change are put into `rows`, in memory that is set
+/// aside; it takes none.
 ///
 /// It goes by the runs of what is held, and ends at the first offset that the member doesn't hold.
 pub fn acknowledge<D: Disk, W: Window>(
@@ -223,12 +226,13 @@ pub fn acknowledge<D: Disk, W: Window>(
     requires above { log.now.start ≤ start }
     requires well_formed { IsWellFormed batches.now }
     requires room { 2 * length (W.held window.now) ≤ room_of rows.old }
-    ensures judged { Judges limit member.now (kind_at batches.now) log.now.batches
+    ensures judged { Judges limit member.now (named_from log.now.start batches.now) log.now.batches
         (record { start = start; rows = stored.now.list; held = W.held window.now }) rows.new.list result }
     ensures room { room_of rows.old ≤ room_of rows.new }
 {
     rows.clear();
-    let missing = act_on_pieces(rows, window, member, limit, Pieces::new(batches));
+    let named = Named::new(batches, log.start());
+    let missing = act_on_pieces(rows, window, member, limit, named);
     match missing {
         Some(offset) => Judged::NotHeld(offset),
         None => Judged::Changes(moved_by(log, start, stored, rows)),

@@ -6,7 +6,9 @@ ghost use Rattle.edge_io.specs.Armed.{ArmsAlone, RunsOn};
 ghost use Rattle.edge_io.specs.declared.name.DiskPlace.TheVariants.{Log, StateA, StateB};
 ghost use Rattle.share_model.specs.Acks.{types_in};
 ghost use Rattle.share_model.specs.ForeignRules.{share_state_at};
+ghost use Rattle.share_model.specs.Logs.{end_of};
 ghost use Rattle.share_model.specs.declared.fault.LogFault.{LogFault};
+ghost use Rattle.part_log.specs.Logs.{log_in};
 ghost use Rattle.coord_checkpoint.specs.Disks.{RunsBoth};
 ghost use Rattle.edge_io.specs.Moments.{LeavesOnly, LeavesPairs};
 ghost use Rattle.gate_journal.specs.Frames.{StandsAs};
@@ -14,12 +16,13 @@ ghost use Rattle.share_part.specs.Failures.{RunOnBoth};
 ghost use Rattle.share_coord.specs.Opening.{IsOpened as AreOpened, IsNotOpened as AreNotOpened};
 ghost use Rattle.share_part.specs.Opening.{IsOpened, IsNotOpened};
 ghost use Rattle.offset_runs.specs.Changes.{room_of};
+ghost use Rattle.share_part.specs.Deleting.{DeletesOnce, IsTellableDelete, target_of};
 ghost use Rattle.share_part.specs.Foreseeing.{with_ack};
 ghost use Rattle.share_part.specs.Hosting.{key_of};
 ghost use Rattle.share_coord.specs.States.{state_found, states_of};
 ghost use Rattle.share_part.specs.Acknowledging.{AreWithinAcks};
 ghost use Rattle.share_part.specs.Following.{IsEmptyAnswer, IsFetch};
-ghost use Rattle.share_part.specs.Shards.{Carries, PartShardState, held_in, spare_of};
+ghost use Rattle.share_part.specs.Shards.{Carries, PartShardState, held_in, placed_at, spare_of};
 ghost use Rattle.share_part.specs.Releasing.{ReleasesOnce};
 ghost use Rattle.share_part.specs.Visits.{acks_alone, told_alone};
 ghost use Rattle.share_part.specs.Walks.{IsSmallGrant};
@@ -27,6 +30,7 @@ ghost use Rattle.share_part.specs.Once.{ExpiresOnce, FollowsOnce, VisitsOnce, Pr
 
 use crate::acks::{judge_acks, judge_given, settle_acks, settle_given};
 use crate::conf::PartConf;
+use crate::delete::{raise_tables, raise_windows, target};
 use crate::fetch::{append_batches, has_table, make_table};
 use crate::judge::are_hosted;
 use crate::limits::Limits;
@@ -42,8 +46,8 @@ use offset_runs::Runs;
 use part_log::PartLog;
 use share_coord::{Coord, CoordOpen, StateView, States};
 use share_model::{
-    AckBatch, AckOutcome, ExpireAnswer, LogFault, Name, NoMemory, Room, StoreFault, Then,
-    ThenOutcome, Visit, VisitAnswer,
+    AckBatch, AckOutcome, DeleteAnswer, ExpireAnswer, LogFault, Name, NoMemory, Placed, Room,
+    StoreFault, Then, ThenOutcome, Visit, VisitAnswer,
 };
 use std::alloc::Global;
 use std::collections::BTreeMap;
@@ -157,6 +161,16 @@ fn has_no_memory(done: &Result<u64, LogFault>) -> bool
     }
 }
 
+// What a batch is answered that was added to a log which starts there, or wasn't.
+fn placed(done: Result<u64, LogFault>, start: u64) -> Result<Placed, LogFault>
+    ensures { result ≡ placed_at start done }
+{
+    match done {
+        Ok(base) => Ok(Placed { base, start }),
+        Err(fault) => Err(fault),
+    }
+}
+
 impl<D: Disk, W: Window> PartShard<D, W> {
     /// Opens a partition of the disk of its log and the two of its states, which come back at an `Err`. Nothing is
     /// held.
@@ -197,7 +211,7 @@ impl<D: Disk, W: Window> PartShard<D, W> {
                 return Err(PartOpen { disks, fault });
             }
         };
-        let states = match open_states(alloc, a, b) {
+        let mut states = match open_states(alloc, a, b) {
             Ok(states) => states,
             Err((a, b, fault)) => {
                 let disks = (log.into_disk(), a, b);
@@ -205,6 +219,7 @@ impl<D: Disk, W: Window> PartShard<D, W> {
                 return Err(PartOpen { disks, fault });
             }
         };
+        raise_tables(&mut states, log.start());
         if !are_hosted(&conf, &log, &states) {
             let (a, b) = states.into_disks();
             let disks = (log.into_disk(), a, b);
@@ -420,7 +435,8 @@ impl<D: Disk, W: Window> PartShard<D, W> {
     /// first.
     ///
     /// The acknowledgements come first: all are stored by one write and end the holds of the offsets that they name,
-    /// or none is. What the visit asks for follows them, whatever became of them.
+    /// or none is; those of offsets below the log's start are passed over. What the visit asks for follows them,
+    /// whatever became of them.
     ///
     /// A fetch walks the first 2000 slots from the start of the group's table, in order, and acquires those that are
     /// available, until the record limit is used up, or a batch doesn't fit. The first fetch of a group stores its table;
@@ -472,7 +488,8 @@ impl<D: Disk, W: Window> PartShard<D, W> {
     /// checkpoint before its write, and leaves the spare number.
     ///
     /// It is answered as a visit's acknowledgements are. At each moment while it runs a crash leaves the tables of before,
-    /// with or without the write that was pending, or those with this one.
+    /// with or without the write that was pending, or those with this one, once an opening has raised them to the log's
+    /// start.
     pub fn ack_reserved(
         &mut self,
         now: u64,
@@ -549,20 +566,54 @@ impl<D: Disk, W: Window> PartShard<D, W> {
         Ok(ExpireAnswer::Done { freed })
     }
 
-    /// Adds a batch as a producer sends it, as `PartLog::append` does. The shard's clock is raised to `now`.
-    pub fn produce(&mut self, now: u64, batch: &[u8]) -> Result<u64, LogFault>
+    /// Adds a batch as a producer sends it, as `PartLog::append` does, and answers its base and where the log starts.
+    /// The shard's clock is raised to `now`.
+    pub fn produce(&mut self, now: u64, batch: &[u8]) -> Result<Placed, LogFault>
         requires { now ≤ 2 ^ 62 }
         ensures once { ProducesOnce D.seen W.held now batch.now self.old self.new result }
-        ensures below { IfOk result (λ base. base ≤ 2 ^ 62) }
+        ensures below { IfOk result (λ placed. (placed.base ≤ 2 ^ 62) × (placed.start ≤ 2 ^ 62)) }
         ensures behind { (end : ℕ) → result ≢ Err (LogFault.Behind end) }
         ensures runs { RunsOn D.seen self.old.log.journal.disk self.new.log.journal.disk }
     {
         let result = self.log.append(batch);
         if has_no_memory(&result) {
-            return result;
+            return Err(LogFault::NoMemory);
         }
         self.clock = self.clock.max(now);
-        result
+        placed(result, self.log.start())
+    }
+
+    /// Deletes the records below an offset, where -1 stands for the log's end. The shard's clock is raised to `now`. It
+    /// takes no memory.
+    ///
+    /// Behind a store fault nothing is deleted. Otherwise each table that starts below the log's start starts there,
+    /// and nothing below it is held any more.
+    pub fn delete(&mut self, now: u64, to: i64) -> DeleteAnswer
+        requires { now ≤ 2 ^ 62 }
+        ensures once { DeletesOnce D.seen W.held now to self.old self.new result }
+        ensures range { (end : ℕ) → (result ≡ DeleteAnswer.OutOfRange end) ↔
+            ((target_of (log_in self.old.log) to ≡ None) × (end ≡ end_of self.old.log.batches)) }
+        ensures below { IsTellableDelete result }
+        ensures runs { RunsOn D.seen self.old.log.journal.disk self.new.log.journal.disk }
+    {
+        self.clock = self.clock.max(now);
+        let Some(to) = target(&self.log, to) else {
+            return DeleteAnswer::OutOfRange {
+                end: self.log.end(),
+            };
+        };
+        let start = self.log.start();
+        if to <= start {
+            return DeleteAnswer::Done { start };
+        }
+        match self.log.raise(to) {
+            Ok(()) => {
+                raise_tables(&mut self.states, to);
+                raise_windows(&mut self.windows, to);
+                DeleteAnswer::Done { start: to }
+            }
+            Err(fault) => DeleteAnswer::Store(fault),
+        }
     }
 
     /// The stored state of a group's table. `None` where the group has none.

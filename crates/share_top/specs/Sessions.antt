@@ -23,7 +23,7 @@ use Rattle.broker_model.specs.Steps.{StepsTo}
 use Rattle.broker_model.specs.States.{ReachTo, State, faults_of}
 use Rattle.broker_model.specs.Runs.{Step, IsRun, events_of, outcomes_of}
 use Rattle.broker_model.specs.Laws.{HoldsOfRun}
-use Rattle.broker_model.specs.Starts.{IsWell}
+use Rattle.broker_model.specs.Starts.{BeginsWell}
 use Rattle.broker_core.specs.Bays.{TellsDisks, IsFirst, StandForAll, HasLastCount}
 use Rattle.broker_core.specs.Restarts.{IsDamagedDisk}
 use Rattle.share_top.specs.Changes.{OutputChange}
@@ -121,11 +121,12 @@ pub record IsSession (conf : ConfigParts) (events : List Event) (Tells : List Ou
   -- it begins with the opening of the contents
   pub opens : IsFirst conf contents was first
   pub ran : Ran conf first events Tells (Ends (StandsFor left) (ReachTo conf left) now)
-  -- its losses, arms and counts, and what it promises of records: locks are exclusive, starts pass what was
-  -- acknowledged or archived alone, and an acknowledgement of what its member holds is refused by the store alone
+  -- its losses, arms and counts, and what it promises of records: locks are exclusive, nothing deleted is granted, starts
+  -- pass what was acknowledged or archived alone, and an acknowledgement of what its member holds is refused by the store
+  -- alone
   pub holds : HoldsOfRun conf first ran.steps ran.last
-  -- its partitions begin well, which is the premise of what `holds` says of starts
-  pub well : AllByRecursion IsWell first.machine.shards.parts
+  -- its partitions begin well, which is the premise of what `holds` says of starts, and of what is deleted
+  pub well : AllByRecursion BeginsWell first.machine.shards.parts
   -- a disk with nothing armed begins so: its count rises only behind an arm, as `holds` says
   pub unarmed : (name : List ℕ) → IsTaken conf name → (was name).armed ≡ Nothing → (first.disks name).armed ≡ Nothing
 

@@ -87,6 +87,7 @@ fn foreign_row<S: StateCall>(
     match answer {
         PartAnswer::Foreign(answer) => S::row(alloc, wished.place.partition(), answer),
         PartAnswer::Produce(_)
+        | PartAnswer::Delete(_)
         | PartAnswer::Visit(_)
         | PartAnswer::Look(_)
         | PartAnswer::Heartbeat(_) => unreachable!(),
@@ -106,6 +107,7 @@ fn stored_row<S: StateCall>(
         PartAnswer::Look(looked) => S::row(alloc, partition, stored_answer(alloc, looked)),
         PartAnswer::Foreign(_)
         | PartAnswer::Produce(_)
+        | PartAnswer::Delete(_)
         | PartAnswer::Visit(_)
         | PartAnswer::Heartbeat(_) => unreachable!(),
     }

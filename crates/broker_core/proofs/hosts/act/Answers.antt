@@ -1,16 +1,19 @@
-use Rattle.std.proofs.Common.{◌≡◌, refl, sym, ap, ◌∙◌, subst, ℕ, List, Some, Bool, length}
-use Rattle.call_fold.specs.declared.part.Part.TheVariants.{Produce}
-use Rattle.call_fold.specs.declared.part.PartAnswer.TheVariants.{Foreign as AnswerForeign, Produce as AnswerProduce, Visit as AnswerVisit}
+use Rattle.std.proofs.Common.{◌≡◌, refl, sym, ap, ◌∙◌, subst, ℕ, ℤ, List, Some, Bool, length, of_z, rules, to_z, w64}
+use Rattle.std.proofs.lemmas.Int.{to_z-of_z}
+use mir.Val.{SFits}
+use Rattle.call_fold.specs.declared.part.Part.TheVariants.{Produce, Delete as PartDelete}
+use Rattle.call_fold.specs.declared.part.PartAnswer.TheVariants.{Foreign as AnswerForeign, Produce as AnswerProduce, Delete as AnswerDelete, Visit as AnswerVisit}
 use Rattle.call_fold.specs.declared.part.Produced.{Produced}
+use Rattle.share_model.specs.declared.delete.DeleteAnswer.{DeleteAnswer}
 use Rattle.share_model.specs.declared.visit.VisitAnswer.{VisitAnswer}
-use Rattle.broker_model.specs.Shards.PartCall.{Visits, Produces, Looks}
+use Rattle.broker_model.specs.Shards.PartCall.{Visits, Produces, Looks, Deletes}
 use Rattle.broker_model.specs.Shards.MembersCall.{Beats}
 use Rattle.broker_model.specs.Shards.ShardCall.{CallPart}
 use Rattle.broker_model.specs.Hosted.{HoldsAt}
 use Rattle.broker_core.specs.Hosts.{AreOpen, GoOn, IsThere, LeadsSlot, StaysHosted, counts_in, disks_in, ends_over, parts_of}
 use Rattle.broker_core.specs.declared.slot.ForeignSlot.TheVariants.{Open}
 use Rattle.broker_core.proofs.Stepping.{on_err}
-use Rattle.broker_core.proofs.Calling.{beat_does, led_turned, look_does, produce_halts, visit_halts, looked_at, may_on, part_halts, part_leads, turned_hosted, turned_on, turned_open, with_parts}
+use Rattle.broker_core.proofs.Calling.{beat_does, delete_halts, led_turned, look_does, produce_halts, visit_halts, looked_at, may_on, part_halts, part_leads, turned_hosted, turned_on, turned_open, with_parts}
 use Rattle.broker_core.proofs.Places.{changes_within}
 use Rattle.broker_core.proofs.Leading.{foreign_leads, foreign_halts, foreign_on, halts_so, halts_still, leads_to, go_on_same, members_halt, members_lead}
 use Rattle.broker_core.proofs.hosts.act.Goals as goal
@@ -74,6 +77,45 @@ returns-in_err-produced-in-Produce-clause-stopped g c = on_err c.from_residual-i
           (c.in-Produce.is ∙ ap (λ (b : List ℕ). Produce c.in-Produce.shard b) (sym c.as_slice.ensures)) d.0 d.1.0 d.1.1 a call b d.2,
     ))
     (part_halts g.D.Disk.seen (parts_of c.args.hosts.now) c.produce_at.new.parts.items c.in-Produce.shard c.args.now (λ did. (produced : Produced) × (did ≡ Produces c.as_slice.result.now produced)) c.in_err-produced-in-Produce.ensures.stopped c.requires.apart s k))
+
+pub returns-in_ok-answer-in-Delete-clause-disks : goal.returns-in_ok-answer-in-Delete-clause-disks
+returns-in_ok-answer-in-Delete-clause-disks g c = turned_on g.D.Disk.seen (parts_of c.args.hosts.now) c.delete_at.new.parts.items c.in-Delete.shard (led_turned g.D.Disk.seen c.in-Delete.shard c.args.now (Deletes (to_z w64 (of_z w64 c.in-Delete.to)) (c.in_ok-answer-in-Delete.answer)) c.args.hosts.now.parts.items c.delete_at.new.parts.items c.in_ok-answer-in-Delete.ensures.ok)
+
+pub returns-in_err-answer-in-Delete-clause-disks : goal.returns-in_err-answer-in-Delete-clause-disks
+returns-in_err-answer-in-Delete-clause-disks g c = may_on g.D.Disk.seen (parts_of c.args.hosts.now) c.delete_at.new.parts.items c.in-Delete.shard c.args.now (λ did. (answer : DeleteAnswer) × (did ≡ Deletes (to_z w64 (of_z w64 c.in-Delete.to)) answer)) c.in_err-answer-in-Delete.ensures.stopped (λ h. GoOn g.D.Disk.seen (disks_in (parts_of c.args.hosts.now)) (disks_in h)) (go_on_same g.D.Disk.seen (disks_in (parts_of c.args.hosts.now))) (turned_on g.D.Disk.seen (parts_of c.args.hosts.now) c.delete_at.new.parts.items c.in-Delete.shard)
+
+pub returns-in_ok-answer-in-Delete-clause-stays : goal.returns-in_ok-answer-in-Delete-clause-stays
+returns-in_ok-answer-in-Delete-clause-stays g c = turned_hosted g.D.Disk.seen (parts_of c.args.hosts.now) c.delete_at.new.parts.items c.in-Delete.shard (led_turned g.D.Disk.seen c.in-Delete.shard c.args.now (Deletes (to_z w64 (of_z w64 c.in-Delete.to)) (c.in_ok-answer-in-Delete.answer)) c.args.hosts.now.parts.items c.delete_at.new.parts.items c.in_ok-answer-in-Delete.ensures.ok)
+
+pub returns-in_err-answer-in-Delete-clause-stays : goal.returns-in_err-answer-in-Delete-clause-stays
+returns-in_err-answer-in-Delete-clause-stays g c = may_on g.D.Disk.seen (parts_of c.args.hosts.now) c.delete_at.new.parts.items c.in-Delete.shard c.args.now (λ did. (answer : DeleteAnswer) × (did ≡ Deletes (to_z w64 (of_z w64 c.in-Delete.to)) answer)) c.in_err-answer-in-Delete.ensures.stopped (λ h. StaysHosted (parts_of c.args.hosts.now) h) (record { hosted = refl; topics = refl }) (turned_hosted g.D.Disk.seen (parts_of c.args.hosts.now) c.delete_at.new.parts.items c.in-Delete.shard)
+
+pub returns-in_ok-answer-in-Delete-clause-open : goal.returns-in_ok-answer-in-Delete-clause-open
+returns-in_ok-answer-in-Delete-clause-open g c = turned_open g.D.Disk.seen (parts_of c.args.hosts.now) c.delete_at.new.parts.items c.in-Delete.shard (led_turned g.D.Disk.seen c.in-Delete.shard c.args.now (Deletes (to_z w64 (of_z w64 c.in-Delete.to)) (c.in_ok-answer-in-Delete.answer)) c.args.hosts.now.parts.items c.delete_at.new.parts.items c.in_ok-answer-in-Delete.ensures.ok) c.requires.open
+
+pub returns-in_err-answer-in-Delete-clause-open : goal.returns-in_err-answer-in-Delete-clause-open
+returns-in_err-answer-in-Delete-clause-open g c = may_on g.D.Disk.seen (parts_of c.args.hosts.now) c.delete_at.new.parts.items c.in-Delete.shard c.args.now (λ did. (answer : DeleteAnswer) × (did ≡ Deletes (to_z w64 (of_z w64 c.in-Delete.to)) answer)) c.in_err-answer-in-Delete.ensures.stopped (λ h. AreOpen h) c.requires.open (λ t. turned_open g.D.Disk.seen (parts_of c.args.hosts.now) c.delete_at.new.parts.items c.in-Delete.shard t c.requires.open)
+
+pub returns-in_ok-answer-in-Delete-clause-ok : goal.returns-in_ok-answer-in-Delete-clause-ok
+returns-in_ok-answer-in-Delete-clause-ok g c =
+    let fits : SFits w64 c.in-Delete.to = search rules in
+    λ s k. leads_to g.D.Disk.seen
+    (parts_of c.args.hosts.now) (with_parts g.D.Disk.seen (parts_of c.args.hosts.now) c.delete_at.new.parts.items) s _ _
+    (λ a call b d. (CallPart c.in-Delete.shard d.0 (Deletes (to_z w64 (of_z w64 c.in-Delete.to)) (c.in_ok-answer-in-Delete.answer)), d.1, ap (λ part. Some (record { part = part; answer = AnswerDelete (c.in_ok-answer-in-Delete.answer) })) (ap (λ (to : ℤ). PartDelete c.in-Delete.shard to) (to_z-of_z w64 c.in-Delete.to fits) ∙ sym c.in-Delete.is), d.2))
+    (part_leads g.D.Disk.seen (parts_of c.args.hosts.now) c.delete_at.new.parts.items c.in-Delete.shard c.args.now (Deletes (to_z w64 (of_z w64 c.in-Delete.to)) (c.in_ok-answer-in-Delete.answer)) c.in_ok-answer-in-Delete.ensures.ok c.requires.apart s k)
+
+pub returns-in_err-answer-in-Delete-clause-stopped : goal.returns-in_err-answer-in-Delete-clause-stopped
+returns-in_err-answer-in-Delete-clause-stopped g c =
+    let fits : SFits w64 c.in-Delete.to = search rules in
+    on_err c.from_residual-in_err-answer-in-Delete.result
+    (λ s k. halts_so g.D.Disk.seen
+    (with_parts g.D.Disk.seen (parts_of c.args.hosts.now) c.delete_at.new.parts.items) s _ _
+    (λ a call b d. (
+      AnswerDelete d.1.0,
+      delete_halts g.D.Disk.seen _ _ c.args.now c.in-Delete.shard c.args.part.now (to_z w64 (of_z w64 c.in-Delete.to))
+          (c.in-Delete.is ∙ ap (λ (to : ℤ). PartDelete c.in-Delete.shard to) (sym (to_z-of_z w64 c.in-Delete.to fits))) d.0 d.1.0 d.1.1 a call b d.2,
+    ))
+    (part_halts g.D.Disk.seen (parts_of c.args.hosts.now) c.delete_at.new.parts.items c.in-Delete.shard c.args.now (λ did. (answer : DeleteAnswer) × (did ≡ Deletes (to_z w64 (of_z w64 c.in-Delete.to)) answer)) c.in_err-answer-in-Delete.ensures.stopped c.requires.apart s k))
 
 pub returns-in_ok-answer-in-Visit-clause-disks : goal.returns-in_ok-answer-in-Visit-clause-disks
 returns-in_ok-answer-in-Visit-clause-disks g c = turned_on g.D.Disk.seen (parts_of c.args.hosts.now) c.visit_at.new.parts.items c.in-Visit.shard (led_turned g.D.Disk.seen c.in-Visit.shard c.args.now (Visits c.in-Visit.visit c.in_ok-answer-in-Visit.answer c.in_ok-answer-in-Visit.ensures.ok.0) c.args.hosts.now.parts.items c.visit_at.new.parts.items c.in_ok-answer-in-Visit.ensures.ok.1)

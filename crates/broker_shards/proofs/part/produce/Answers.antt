@@ -1,3 +1,5 @@
+use Rattle.std.proofs.Common.{ap}
+use Rattle.share_coord.specs.Parts.{StoreParts}
 use Rattle.broker_shards.specs.Hosts.{holding}
 use Rattle.broker_shards.proofs.Finding.{batch_found}
 use Rattle.broker_shards.proofs.Parting.{added, call_refused, log_goes}
@@ -9,7 +11,7 @@ returns-in-Ok-clause-acts g c = added g.D.Disk.seen holding c.args.part.now c.pr
 
 pub returns-in-Ok-clause-goes_on : goal.returns-in-Ok-clause-goes_on
 returns-in-Ok-clause-goes_on g c = let once = c.produce-added.ensures.once in
-    log_goes g.D.Disk.seen holding c.args.part.now c.produce-added.new.self once.conf c.produce-added.ensures.runs once.states once.ends
+    log_goes g.D.Disk.seen holding c.args.part.now c.produce-added.new.self once.conf c.produce-added.ensures.runs (ap (λ (t : StoreParts _). t.journal) once.states) once.ends
 
 pub returns-in-Err-clause-acts : goal.returns-in-Err-clause-acts
 returns-in-Err-clause-acts g c = call_refused g.D.Disk.seen holding c.args.part.now c.produce-added.new.self
@@ -17,7 +19,7 @@ returns-in-Err-clause-acts g c = call_refused g.D.Disk.seen holding c.args.part.
 
 pub returns-in-Err-clause-goes_on : goal.returns-in-Err-clause-goes_on
 returns-in-Err-clause-goes_on g c = let once = c.produce-added.ensures.once in
-    log_goes g.D.Disk.seen holding c.args.part.now c.produce-added.new.self once.conf c.produce-added.ensures.runs once.states once.ends
+    log_goes g.D.Disk.seen holding c.args.part.now c.produce-added.new.self once.conf c.produce-added.ensures.runs (ap (λ (t : StoreParts _). t.journal) once.states) once.ends
 
 pub returns-in-Ok-clause-within : goal.returns-in-Ok-clause-within
 returns-in-Ok-clause-within g c = batch_found g.D.Disk.seen holding g.met.D.Disk.only_now c.args.part.now c.produce-added.new.self c.args.now

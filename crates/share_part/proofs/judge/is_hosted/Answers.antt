@@ -1,5 +1,6 @@
 use Rattle.std.proofs.Common.{◌≡◌, ◌∙◌, ◌≤◌, arith, sym, ap, subst, ℕ}
 use Rattle.share_model.specs.ForeignRules.{size_of}
+use Rattle.share_model.specs.Runs.{IsCanonical}
 use Rattle.share_coord.specs.Views.{ViewParts}
 use Rattle.share_part.specs.Judging.{RowsMayStand}
 use Rattle.share_part.proofs.judge.is_hosted.Goals as goal
@@ -14,6 +15,7 @@ returns g c =
             let s = c.starts_within.ensures.0 c.if-not-starts_within.false in
             (s.0, s.1, subst (λ (n : ℕ). n ≤ s.0) c.start.ensures.value s.2, subst (λ (n : ℕ). s.0 ≤ n) c.end.ensures.end s.3)
             );
+        canonical = subst IsCanonical (ap (λ (v : ViewParts). v.state.runs) c.view.view_is) c.list.ensures.canonical;
         rows = subst (λ (n : ℕ). RowsMayStand c.args.log.now.batches n c.args.view.now.state.runs) c.start_of.ensures
             (subst (RowsMayStand c.args.log.now.batches c.start_of.result) runs (c.rows_may_stand.ensures.0 is));
       },

@@ -1,4 +1,6 @@
-use Rattle.std.proofs.Common.{ap, subst, sym, ◌∙◌}
+use Rattle.std.proofs.Common.{ap, rules, subst, sym, ◌∙◌, of_z, to_z, w64}
+use Rattle.std.proofs.lemmas.Int.{to_z-of_z}
+use mir.Val.{SFits}
 use Rattle.broker_shards.specs.Acts.{ActsPart}
 use Rattle.broker_shards.specs.Hosts.{Host}
 use Rattle.broker_shards.specs.declared.part.PartAsk.TheVariants as asks
@@ -17,6 +19,15 @@ returns-in-Produce g c = subst (λ (h : Host g.row.D.Denot). ActsPart g.D.Disk.s
     (acted g.D.Disk.seen _ c.args.event.now c.ms-now.result (asks.Produce c.as_slice.result.now) c.produce.result c.produce.new.part
     c.ms-now.ensures.is (c.in-Produce.is ∙ ap (λ b. asks.Produce b) (sym c.as_slice.ensures))
     c.produce.ensures.acts c.produce.ensures.goes_on c.produce.ensures.within)
+
+pub returns-in-Delete : goal.returns-in-Delete
+returns-in-Delete g c =
+    let fits : SFits w64 c.in-Delete.to = search rules in
+    subst (λ (h : Host g.row.D.Denot). ActsPart g.D.Disk.seen h c.args.event.now c.delete.result
+    (record { topic = c.self.inside.topic; conf = c.self.inside.conf; part = c.delete.new.part })) c.self.view_is
+    (acted g.D.Disk.seen _ c.args.event.now c.ms-now.result (asks.Delete (to_z w64 (of_z w64 c.in-Delete.to))) c.delete.result c.delete.new.part
+    c.ms-now.ensures.is (c.in-Delete.is ∙ ap (λ to. asks.Delete to) (sym (to_z-of_z w64 c.in-Delete.to fits)))
+    c.delete.ensures.acts c.delete.ensures.goes_on c.delete.ensures.within)
 
 pub returns-in-Expire : goal.returns-in-Expire
 returns-in-Expire g c = subst (λ (h : Host g.row.D.Denot). ActsPart g.D.Disk.seen h c.args.event.now c.expire.result

@@ -6,6 +6,10 @@ pub returns-in-Produce : goal.returns-in-Produce
 returns-in-Produce c = subst (λ hand. IfOk c.next_under_name.result (λ stage. stage ≡ hand_stage_after hand c.args.answer)) (sym c.in-Produce.is)
     (c.next_under_name.ensures _ c.take_kept.ensures)
 
+pub returns-in-DeleteRecords : goal.returns-in-DeleteRecords
+returns-in-DeleteRecords c = subst (λ hand. IfOk c.next_under_name-in-DeleteRecords.result (λ stage. stage ≡ hand_stage_after hand c.args.answer)) (sym c.in-DeleteRecords.is)
+    (c.next_under_name-in-DeleteRecords.ensures _ c.take_kept-in-DeleteRecords.ensures)
+
 pub returns-in-Fetch : goal.returns-in-Fetch
 returns-in-Fetch c = subst (λ hand. IfOk c.next_under_name-in-Fetch.result (λ stage. stage ≡ hand_stage_after hand c.args.answer)) (sym c.in-Fetch.is)
     (c.next_under_name-in-Fetch.ensures _ c.take_kept-in-Fetch.ensures)

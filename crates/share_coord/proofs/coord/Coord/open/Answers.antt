@@ -6,6 +6,7 @@ use Rattle.coord_checkpoint.proofs.Opened.{frames_placed}
 use Rattle.share_coord.specs.Stored.{AreTaken, IsRefused}
 use Rattle.share_coord.proofs.Reading.{no_device, refused_clash, refused_damaged, taken_once}
 use Rattle.share_coord.proofs.Replaying.{refused_at, replayed}
+use Rattle.share_coord.proofs.Unraised.{taken_unraised}
 use Rattle.share_coord.proofs.coord.Coord.open.Goals as goal
 
 pub returns-in-Err-clause-refused : goal.returns-in-Err-clause-refused
@@ -31,6 +32,7 @@ returns-in-Ok-finish-clause-opened g c =
     let taken = c.in-Ok-finish.ensures.taken in
     record {
       holds = replayed g.D.Disk.seen c.in-Ok-open.opened.0 c.in-Ok-open.opened.1 es 0 c.in-Ok-open.ensures.kept taken c.in-Ok-open.ensures.few;
+      unraised = taken_unraised items es taken;
       opens = λ x y on_a on_b. record { frames = items; listed = c.in-Ok-open.ensures.opens x y on_a on_b; taken = taken };
       only = λ x y entries on_a on_b stored.
           let same : items ≡ stored.frames = ap frames_in (c.in-Ok-open.ensures.recovers x y stored.frames on_a on_b stored.listed) ∙ frames_placed 0 stored.frames in

@@ -53,7 +53,8 @@ returns-in_default-empty_snapshot-clause-runs g c = (runs_none g.D.Disk.seen c.a
 
 pub next_snapshot-next-requires : goal.next_snapshot-next-requires
 next_snapshot-next-requires g c = subst (λ (o : Option KeptState). next_snapshot o < 2 ^ 64) (sym c.get-known.ensures)
-    (next_held c.requires.held.1.frames c.args.self.now.table.entries c.args.key.now c.requires.held.1.taken c.requires.held.1.few)
+    (next_held c.requires.held.1.frames c.args.self.now.table.entries c.requires.held.1.written c.args.key.now c.requires.held.1.taken c.requires.held.1.kept
+    c.requires.held.1.few)
 
 pub replace-requires-clause-frames : goal.replace-requires-clause-frames
 replace-requires-clause-frames g c =

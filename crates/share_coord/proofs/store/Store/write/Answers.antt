@@ -75,7 +75,8 @@ pub planned-requires-clause-snapshot : goal.planned-requires-clause-snapshot
 planned-requires-clause-snapshot g c =
     let known : kept_at c.args.self.now.table.entries c.args.key.now ≡ Some (shown c.in-Some-known.kept.now) = sym c.get-known.ensures ∙ ap found c.in-Some-known.is in
     subst (λ (o : Option KeptState). next_snapshot o < 2 ^ 64) known
-    (next_held c.requires.held.1.frames c.args.self.now.table.entries c.args.key.now c.requires.held.1.taken c.requires.held.1.few)
+    (next_held c.requires.held.1.frames c.args.self.now.table.entries c.requires.held.1.written c.args.key.now c.requires.held.1.taken c.requires.held.1.kept
+    c.requires.held.1.few)
 
 pub returns-in-Some-clause-runs : goal.returns-in-Some-clause-runs
 returns-in-Some-clause-runs g c = (runs_none g.D.Disk.seen c.args.self.now.journal.first.disk, runs_none g.D.Disk.seen c.args.self.now.journal.second.disk)

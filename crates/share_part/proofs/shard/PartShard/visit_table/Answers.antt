@@ -44,7 +44,7 @@ invariant_of-self g c = record {
 }
 
 pub settle_acks-ack-requires-clause-judged : goal.settle_acks-ack-requires-clause-judged
-settle_acks-ack-requires-clause-judged g c = subst (λ (h : Held). JudgesAcks c.self.inside.conf.limit c.args.visit.now c.self.inside.log.batches h
+settle_acks-ack-requires-clause-judged g c = subst (λ (h : Held). JudgesAcks c.self.inside.conf.limit c.self.inside.log.start c.args.visit.now c.self.inside.log.batches h
     (share_state_at (states_of c.self.inside.states.entries) (key_of c.self.inside.conf c.args.visit.now.group)) c.judge_acks-acks.new.rows.list c.judge_acks-acks.result) (sym (c.in_ok-ready.ensures.held c.args.visit.now.group))
     c.judge_acks-acks.ensures.judged
 
