@@ -12,7 +12,7 @@ NAME = f"sharebroker-{__version__}"
 METADATA = f"""Metadata-Version: 2.1
 Name: sharebroker
 Version: {__version__}
-Summary: A client for sharebroker: producers, share consumers (KIP-932) and a command line
+Summary: A client for sharebroker: producers, share consumers (KIP-932), deletions and a command line
 License: Apache-2.0
 Requires-Python: >=3.9
 """

@@ -14,7 +14,7 @@ sys.path.insert(0, TESTS)
 
 from context import PROGRAM, needs_program  # noqa: E402
 from serve_broker import ServeBroker  # noqa: E402
-from sharebroker import DeliveryState, StoredRun, share_group_state  # noqa: E402
+from sharebroker import DeletedRecords, DeliveryState, StoredRun, delete_records, share_group_state  # noqa: E402
 
 TOPIC = "jobs:1:6ba7b810-9dad-11d1-80b4-00c04fd430c8"
 
@@ -71,6 +71,8 @@ class Jobs(unittest.TestCase):
         # One is killed at work, and the next one gets the job at once.
         self.assertEqual(["job 4 kills me"], self.lines("worker.py", "bert", "--dies-at", "4", status=-9))
         self.assertEqual(["job 4, delivery 2: 60 / 4 = 15"], self.lines("worker.py", "carl"))
+        # What is done is deleted, and the table stays as it is.
+        self.assertEqual([DeletedRecords("jobs", 0, 5, None)], delete_records(self.broker.servers, {("jobs", 0): 5}))
         self.broker.kill()
         self.assertEqual(["table 776f726b657273 jobs/0 start 5 complete 0", "end"], self.dump())
 

@@ -1,4 +1,4 @@
-"""A client for sharebroker: producers, share consumers (KIP-932), and a command line.
+"""A client for sharebroker: producers, share consumers (KIP-932), deletions, and a command line.
 
     from sharebroker import Producer, ShareConsumer
 """
@@ -8,6 +8,7 @@ from .errors import (BufferFull, Closed, ConnectionLost, DeliveryTimeout, Malfor
                      OutcomeUnknown, RecordTooLarge, Refused, ShareBrokerError, Unacknowledged, UnknownTopic,
                      Unreachable, UnsupportedBroker, WrongMode)
 from .consumer import ConsumerSettings, ShareConsumer
+from .deletes import LOG_END, DeletedRecords, delete_records
 from .producer import Producer, ProducerSettings
 from .records import Acknowledgement, AcknowledgeType, ConsumerRecord, Outcome
 from .states import DeliveryState, PartitionState, StoredRun, share_group_state
@@ -15,8 +16,8 @@ from .version import __version__
 
 __all__ = [
     "Acknowledgement", "AcknowledgeType", "BufferFull", "Closed", "ConnectionLost", "ConsumerRecord",
-    "ConsumerSettings", "DeliveryState", "DeliveryTimeout", "MalformedReply", "NotInHand", "NotSent", "Outcome",
-    "OutcomeUnknown", "PartitionState", "Producer", "ProducerSettings", "RecordMetadata", "RecordTooLarge", "Refused",
-    "ShareBrokerError", "ShareConsumer", "StoredRun", "Unacknowledged", "UnknownTopic", "Unreachable",
-    "UnsupportedBroker", "WrongMode", "__version__", "share_group_state",
+    "ConsumerSettings", "DeletedRecords", "DeliveryState", "DeliveryTimeout", "LOG_END", "MalformedReply", "NotInHand",
+    "NotSent", "Outcome", "OutcomeUnknown", "PartitionState", "Producer", "ProducerSettings", "RecordMetadata",
+    "RecordTooLarge", "Refused", "ShareBrokerError", "ShareConsumer", "StoredRun", "Unacknowledged", "UnknownTopic",
+    "Unreachable", "UnsupportedBroker", "WrongMode", "__version__", "delete_records", "share_group_state",
 ]

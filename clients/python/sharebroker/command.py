@@ -1,4 +1,4 @@
-"""The command line: `produce`, `consume` and `state`, in the manner of Kafka's console tools."""
+"""The command line: `produce`, `consume`, `state` and `delete-records`, in the manner of Kafka's console tools."""
 
 from __future__ import annotations
 
@@ -12,6 +12,7 @@ from typing import BinaryIO, Deque, Optional, Sequence
 
 from .accumulator import RecordMetadata
 from .consumer import ShareConsumer
+from .deletes import delete_records
 from .errors import ShareBrokerError
 from .producer import Producer
 from .records import AcknowledgeType, ConsumerRecord, Outcome
@@ -21,6 +22,7 @@ EXAMPLES = """examples:
   echo 'resize picture 7' | sharebroker-client produce --bootstrap-server localhost:9092 --topic jobs
   sharebroker-client consume --bootstrap-server localhost:9092 --topic jobs --group resizers --max-messages 1
   sharebroker-client state --bootstrap-server localhost:9092 --group resizers
+  sharebroker-client delete-records --bootstrap-server localhost:9092 --topic jobs --partition 0 --before-offset 7
 
 Without pip the words are `python3 -m sharebroker produce ..`. The status is 0 where all was done, 1 where something
 failed, which standard error says, and 2 where the words aren't right.
@@ -33,13 +35,15 @@ def _parser() -> argparse.ArgumentParser:
     commands = parser.add_subparsers(dest="command", required=True)
     for name, does, says in (("produce", produce, "sends each line of standard input as a record"),
                              ("consume", consume, "writes each record to standard output as a line"),
-                             ("state", state, "writes what is stored of a share group")):
+                             ("state", state, "writes what is stored of a share group"),
+                             ("delete-records", delete, "deletes the records of a partition below an offset")):
         command = commands.add_parser(name, help=says, description=f"{name}: {says}.")
         command.set_defaults(does=does)
         command.add_argument("--bootstrap-server", required=True, metavar="HOST:PORT", help="where the broker listens")
     _produce_words(commands.choices["produce"])
     _consume_words(commands.choices["consume"])
     _state_words(commands.choices["state"])
+    _delete_words(commands.choices["delete-records"])
     return parser
 
 
@@ -73,6 +77,13 @@ def _consume_words(command: argparse.ArgumentParser) -> None:
 def _state_words(command: argparse.ArgumentParser) -> None:
     command.add_argument("--group", required=True)
     command.add_argument("--topic", action="append", help="may be given more than once (default: all)")
+
+
+def _delete_words(command: argparse.ArgumentParser) -> None:
+    command.add_argument("--topic", required=True)
+    command.add_argument("--partition", required=True, type=int)
+    command.add_argument("--before-offset", required=True, type=int, metavar="OFFSET",
+                         help="the first offset that stays; -1: none does that is there now")
 
 
 def produce(words: argparse.Namespace, output: BinaryIO) -> int:
@@ -149,6 +160,15 @@ def state(words: argparse.Namespace, output: BinaryIO) -> int:
             output.write(f"  {run.first_offset} to {run.last_offset} {run.state.name.lower()} "
                          f"x{run.delivery_count}\n".encode())
     output.flush()
+    return 0
+
+
+def delete(words: argparse.Namespace, output: BinaryIO) -> int:
+    """Deletes the records below the offset, and writes where the log starts then."""
+    told, = delete_records(words.bootstrap_server, {(words.topic, words.partition): words.before_offset})
+    if told.error is not None:
+        raise told.error
+    output.write(f"{told.topic}/{told.partition} low watermark {told.low_watermark}\n".encode())
     return 0
 
 

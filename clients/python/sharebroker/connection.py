@@ -6,7 +6,7 @@ import itertools
 import socket
 import struct
 import time
-from typing import Any, List, Tuple
+from typing import Any, List, Sequence, Tuple
 
 from .errors import ConnectionLost, MalformedReply, NotSent, Refused, Unreachable, UnsupportedBroker
 from .fields import Reader, Writer, skip_tags
@@ -165,14 +165,14 @@ class Connection:
         return b"".join(pieces)
 
 
-def check_versions(connection: Connection) -> None:
-    """Asks which calls are served, and refuses a broker that lacks one (`UnsupportedBroker`)."""
+def check_versions(connection: Connection, calls: Sequence[Call[Any, Any]] = NEEDED) -> None:
+    """Asks which calls are served, and refuses a broker that lacks one of these (`UnsupportedBroker`)."""
     asked = ApiVersionsRequest("sharebroker-python", __version__)
     reply = connection.call(API_VERSIONS, asked)
     if reply.error_code:
         raise UnsupportedBroker(str(Refused("ApiVersions", reply.error_code)))
     served = {entry.api_key: (entry.min_version, entry.max_version) for entry in reply.api_keys}
-    for call in NEEDED:
+    for call in calls:
         least, most = served.get(call.key, (0, -1))
         if not least <= call.version <= most:
             raise UnsupportedBroker(f"the broker doesn't serve {call.name} in version {call.version}")

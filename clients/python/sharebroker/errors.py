@@ -9,6 +9,7 @@ from __future__ import annotations
 #: The error codes of the Kafka protocol that the broker answers with.
 CODE_NAMES = {
     0: "NONE",
+    1: "OFFSET_OUT_OF_RANGE",
     2: "CORRUPT_MESSAGE",
     3: "UNKNOWN_TOPIC_OR_PARTITION",
     10: "MESSAGE_TOO_LARGE",

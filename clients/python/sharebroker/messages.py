@@ -231,6 +231,71 @@ PRODUCE = Call(
               throttle_time_ms=INT32))
 
 
+# DeleteRecords 2
+
+@dataclass(frozen=True)
+class DeletePartition:
+    """A partition whose records below an offset go. The offset -1 stands for the end of its log."""
+
+    partition_index: int
+    offset: int
+
+
+@dataclass(frozen=True)
+class DeleteTopic:
+    """The partitions of a topic."""
+
+    name: str
+    partitions: List[DeletePartition]
+
+
+@dataclass(frozen=True)
+class DeleteRecordsRequest:
+    """Deletes the records of partitions below offsets."""
+
+    topics: List[DeleteTopic]
+    timeout_ms: int
+
+
+@dataclass(frozen=True)
+class DeletedPartition:
+    """Where the log of a partition starts now, or a code and -1."""
+
+    partition_index: int
+    low_watermark: int
+    error_code: int
+
+
+@dataclass(frozen=True)
+class DeletedTopic:
+    """What became of a topic's partitions."""
+
+    name: str
+    partitions: List[DeletedPartition]
+
+
+@dataclass(frozen=True)
+class DeleteRecordsResponse:
+    """What became of each partition, in the order of the request."""
+
+    throttle_time_ms: int
+    topics: List[DeletedTopic]
+
+
+DELETE_RECORDS = Call(
+    "DeleteRecords", 21, 2,
+    Structure(DeleteRecordsRequest,
+              topics=Array(Structure(
+                  DeleteTopic, name=TEXT,
+                  partitions=Array(Structure(DeletePartition, partition_index=INT32, offset=INT64)))),
+              timeout_ms=INT32),
+    Structure(DeleteRecordsResponse, throttle_time_ms=INT32,
+              topics=Array(Structure(
+                  DeletedTopic, name=TEXT,
+                  partitions=Array(Structure(DeletedPartition, partition_index=INT32, low_watermark=INT64,
+                                             error_code=INT16))))))
+
+
 # ReadShareGroupState 0
 
 @dataclass(frozen=True)

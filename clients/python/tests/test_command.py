@@ -39,6 +39,16 @@ class Commands(BrokerCase):
         self.assertEqual((0, "orders/0 start 1\n", ""), self.run_command("state", "--group", "g", "--topic", "orders"))
         self.assertEqual([(1, b"y", 1)], told(self.consumer().poll(5000)))
 
+    def test_delete_records(self):
+        self.broker()
+        self.produce(b"x", b"y")
+        words = ("delete-records", "--topic", "orders", "--partition", "0", "--before-offset")
+        self.assertEqual((0, "orders/0 low watermark 1\n", ""), self.run_command(*words, "1"))
+        self.assertEqual([(1, b"y", 1)], told(self.consumer().poll(5000)))
+        self.assertEqual((1, "", "sharebroker: DeleteRecords of orders/0: the broker answered with code 1, "
+                                 "OFFSET_OUT_OF_RANGE\n"), self.run_command(*words, "3"))
+        self.assertEqual((0, "orders/0 low watermark 2\n", ""), self.run_command(*words, "-1"))
+
     def test_a_consume_that_ends_when_nothing_comes(self):
         self.broker()
         self.produce(b"x")
@@ -63,7 +73,7 @@ class Package(unittest.TestCase):
             told = subprocess.run(words, cwd=built, env={**os.environ, "PYTHONPATH": os.path.join(built, wheel)},
                                   capture_output=True, check=True, text=True).stdout
         self.assertEqual("sharebroker-1.0-py3-none-any.whl", wheel)
-        self.assertIn("produce,consume,state", told)
+        self.assertIn("produce,consume,state,delete-records", told)
 
 
 if __name__ == "__main__":

@@ -17,7 +17,7 @@ from sharebroker.hand import Hand, batches_of
 from sharebroker.partitioner import murmur2, partition_of
 from sharebroker.states import _state_of
 
-CALLS = [messages.API_VERSIONS, messages.METADATA, messages.PRODUCE, messages.READ_STATE,
+CALLS = [messages.API_VERSIONS, messages.METADATA, messages.PRODUCE, messages.DELETE_RECORDS, messages.READ_STATE,
          share_messages.SHARE_GROUP_HEARTBEAT, share_messages.SHARE_FETCH, share_messages.SHARE_ACKNOWLEDGE]
 STRUCTURES = {call.name + end: structure for call in CALLS
               for end, structure in (("Request", call.request), ("Response", call.reply))}
