@@ -33,9 +33,9 @@ class StoredRun:
 
 @dataclass(frozen=True)
 class PartitionState:
-    """What is stored of a group on a partition. All below `start_offset` is acknowledged or archived, and what is
-    in none of the runs was never delivered. Where the group has never fetched from the partition `start_offset` is
-    None."""
+    """What is stored of a group on a partition. All below `start_offset` is acknowledged, archived or deleted, or came
+    before the group, and what is in none of the runs was never delivered. Where the group has never fetched from the
+    partition `start_offset` is None."""
 
     topic: str
     partition: int
