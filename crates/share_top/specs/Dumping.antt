@@ -1,6 +1,6 @@
 -- What is stored of share groups, as `dump-state` writes it (this project's own; docs/SCRIPT.md shows it).
--- For example where `g` released the one record of partition 0 of `orders` once, it writes `table 67 orders/0 start 0`,
--- `run 0 0 available 1` and `end`.
+-- For example where `g` released the one record of partition 0 of `orders` once, it writes
+-- `table 67 orders/0 start 0 complete 0`, `run 0 0 available 1` and `end`.
 use Rattle.std.specs.Prelude.{◌≡◌, ◌≢◌, ◌⊎◌, ℕ, List, [], ◌∷◌, ◌++◌, codes}
 use Rattle.std.specs.List.{flat_map}
 use Rattle.std.specs.Io.KnownBytes.{Appends}
