@@ -1,5 +1,5 @@
-/* Refuses memory: put before a program by LD_PRELOAD. The REFUSED_TAKING-th call of malloc or realloc gets none, and with
- * REFUSED_MODE=dead no later one does either. Where one was refused, the file that REFUSED_MARK names is there. */
+/* Refuses memory: put before a program by LD_PRELOAD. The REFUSED_TAKING-th call of malloc or realloc gets none, and
+ * with REFUSED_MODE=dead no later one does either. Where one was refused, the file that REFUSED_MARK names is there. */
 #define _GNU_SOURCE
 #include <dlfcn.h>
 #include <errno.h>
