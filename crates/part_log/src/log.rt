@@ -297,7 +297,8 @@ impl<D: Disk> PartLog<D> {
         self.store(view.base, view.base + u64::from(view.last_delta), buffer)
     }
 
-    /// Deletes the records below an offset: from now on the log starts there. It writes a mark, and takes no memory.
+    /// Deletes the records below an offset above the log's start, and at most its end: from now on the log starts
+    /// there. It writes a mark, and takes no memory.
     ///
     /// At `Device` the log starts where it did, and the mark is pending, or the write that was pending still is. At
     /// `Full` the journal has no room for the mark, and nothing is changed.

@@ -45,7 +45,7 @@ abbrev pub HasRecord : List Batch → ℕ → Type 0
 HasRecord [] offset = ⊥
 HasRecord (b ∷ log) offset = Contains b.offsets offset ⊎ HasRecord log offset
 
--- a gap: a slot without a record
+-- a gap: a slot without a record, wherever the log starts
 abbrev pub IsGap : List Batch → ℕ → Type 0
 IsGap log offset = IsSlot log offset × (HasRecord log offset → ⊥)
 

@@ -3,6 +3,6 @@
 pub enum Reset {
     /// At the end of the log.
     Latest,
-    /// At offset 0.
+    /// Where the log starts.
     Earliest,
 }

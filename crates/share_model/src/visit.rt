@@ -55,11 +55,11 @@ pub struct VisitAnswer {
 /// What became of the acknowledgements of one partition. They are all taken, or none is.
 #[derive(Clone, Copy)]
 pub enum AckOutcome {
-    /// They are stored, or there were none.
+    /// They are stored, or none is of an offset from the log's start on.
     Done,
     /// They aren't well formed.
     Malformed(AckFault),
-    /// The member doesn't hold this offset, the least such one.
+    /// The member doesn't hold this offset, the least such one from the log's start on.
     NotHeld { offset: u64 },
     /// They couldn't be stored.
     Store(StoreFault),

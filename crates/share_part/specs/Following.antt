@@ -5,7 +5,7 @@
 -- there is none where the member holds nothing.
 -- The batches of a fetch are read from the log's disk, once the group has its table. Where one can't be read, nothing
 -- is acquired, and a table that was made stands.
--- Worked example: a log has one batch of three records from 0 to 2, `g` has no table, a new group begins at 0, locks last 30000. A fetch
+-- Worked example: a log has one batch of three records from 0 to 2, `g` has no table, a new group begins at the log's start, 0, locks last 30000. A fetch
 -- of 2 records by `a` at 5000 stores a table with start 0 and no rows, and acquires 0 and 1 with count 1 until 35000. A fetch by `b` at
 -- 1000 acquires 2, until 35000 as well. Each is answered with the whole batch. A release of `a` then stores 0 and 1 as available with
 -- count 1, and `b` still holds 2. Had the log's disk failed in the fetch of `b`, that would be answered with a device

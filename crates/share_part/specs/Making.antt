@@ -1,5 +1,5 @@
 -- The pieces of a fetch. Of these public clauses cite `MakesTableOnce`, by `Writes`, and the private ones the others.
--- For example a group without a table gets one with start 0 where new groups begin at 0, and its walk is that of such a table.
+-- For example a group without a table gets one with start 2 where new groups begin at the log's start, 2, and its walk is that of such a table.
 use Rattle.std.specs.Prelude.{◌≡◌, ◌++◌, ℕ, zero, suc, List, [], ◌∷◌, None, Result, Ok, Err, IsErr, IsSome, pos, unwrap_or}
 use Rattle.flex_fields.specs.declared.fault.NoMemory.{NoMemory as want}
 use Rattle.share_model.specs.ForeignRules.{share_state_at}
@@ -13,7 +13,7 @@ use Rattle.share_coord.specs.Calls.{IsInitialised}
 use Rattle.share_coord.specs.Holding.{WritesOnce}
 use Rattle.share_coord.specs.Parts.{StoreParts}
 use Rattle.share_coord.specs.Recorded.{IsInitRecord, StoresOne}
-use Rattle.share_coord.specs.Stored.{Entries, kept_at}
+use Rattle.share_coord.specs.Stored.{Entries, kept_at, snapshot_frames}
 use Rattle.share_coord.specs.declared.fault.CoordFault.{CoordFault}
 use Rattle.share_coord.specs.declared.fault.CoordFault.TheVariants.{Invalid, Unknown, FencedLeader, FencedState, TooMany, Store, NoMemory}
 use Rattle.share_part.specs.Hosting.{PartConfParts, key_of}
@@ -48,7 +48,7 @@ pub record MakesOnce {D : Type 0} (seen : D → DiskView) (Failed : D → D → 
   pub done : Result (Unit {0}) CoordFault
   pub tells : Tells done result
   pub once : WritesOnce seen Failed Written old new done
-  pub one : StoresOne seen Is old.journal new.journal done
+  pub one : StoresOne seen (snapshot_frames old.entries) Is old.journal new.journal done
 
 -- The table of a group is there, or is made.
 pub record MakesTableOnce {D : Type 0} (seen : D → DiskView) (Failed : D → D → Type 0)

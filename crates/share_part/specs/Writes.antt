@@ -1,8 +1,8 @@
 -- Which records the calls on a shard store: one a write, and a write for each list of acts and each new table
 -- (KIP-932 stores a share group's state as snapshots and updates; what an update holds is this project's own).
 -- Acts on a group's table store an update with the rows that they changed, from the new start on, and with -1 in
--- place of the start where it stays, unless a delete has raised it since the table's last record; behind 500 updates it
--- is a snapshot of the whole table. A new table is stored as a snapshot with its start and no rows.
+-- place of the start where it stays, unless a delete or an opening has raised it since a call last stored the table;
+-- behind 500 updates it is a snapshot of the whole table. A new table is stored as a snapshot with its start and no rows.
 -- Worked example: a log has one batch from 0 to 9, the start is 0, nothing is stored, and `a` holds 0 to 9 with count
 -- 1. An accept of 3 stores an update with start -1 and the row of 3. An accept of 0 behind it stores an update with
 -- start 1 and no rows: that of 3 isn't stored again. A delete of 5 stores nothing of the table, and an accept of 7 behind
