@@ -15,7 +15,7 @@ use Rattle.share_model.specs.declared.foreign.ForeignAnswer.{ForeignAnswer}
 use Rattle.share_model.specs.declared.foreign.ForeignOp.{ForeignOp}
 use Rattle.coord_checkpoint.specs.Disks.{HasFailed}
 use Rattle.share_coord.specs.Parts.{StoreParts}
-use Rattle.share_coord.specs.Stored.{Entries}
+use Rattle.share_coord.specs.Stored.{Entries, snapshot_frames}
 use Rattle.share_coord.specs.Calls.{Causes}
 use Rattle.share_coord.specs.Holding.{Holds, IsWithin, WritesOnce}
 use Rattle.share_coord.specs.declared.fault.CoordFault.{CoordFault}
@@ -144,7 +144,7 @@ module _ {D T : Type 0} (seen : D → DiskView) (op : ForeignOp) (old new : Stor
   Once done = WritesOnce {T = T} seen (HasFailed seen) Written old new done
 
   abbrev Puts : Result T CoordFault → Type 0
-  Puts done = StoresOne {T = T} seen (IsRecordOf old.entries op) old.journal new.journal done
+  Puts done = StoresOne {T = T} seen (snapshot_frames old.entries) (IsRecordOf old.entries op) old.journal new.journal done
 
   done_by : (x : T) → Once (Ok x) → Carried seen op old new (code_alone NONE)
   done_by x once = carried seen old (Leads seen op old new (code_alone NONE)) (λ pending held never. (

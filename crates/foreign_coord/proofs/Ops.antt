@@ -16,7 +16,7 @@ use Rattle.share_model.specs.declared.foreign.StateBatch.{StateBatch}
 use Rattle.share_model.specs.declared.run.Run.{Run}
 use Rattle.coord_checkpoint.specs.Disks.{HasFailed}
 use Rattle.share_coord.specs.Parts.{StoreParts}
-use Rattle.share_coord.specs.Stored.{kept_at}
+use Rattle.share_coord.specs.Stored.{kept_at, snapshot_frames}
 use Rattle.share_coord.specs.Calls.{Causes, IsInitialised, IsWritten, IsTooMany, IsForgotten, init_refusal, write_refusal}
 use Rattle.share_coord.specs.Holding.{WritesOnce}
 use Rattle.share_coord.specs.Recorded.{IsInitRecord, IsWriteRecord, StoresOne}
@@ -58,7 +58,7 @@ module _ {D : Type 0} (seen : D → DiskView)
   init_by : (done : Result (Unit {0}) CoordFault) (state start : ℤ) → Tells done result
       → IfErr done (Causes (init_refusal (kept_at shown.entries key) state start) (λ _. ⊥))
       → WritesOnce seen (HasFailed seen) (IsInitialised shown.entries key state start) shown new done
-      → StoresOne seen (IsInitRecord shown.entries key state start) shown.journal new.journal done
+      → StoresOne seen (snapshot_frames shown.entries) (IsInitRecord shown.entries key state start) shown.journal new.journal done
       → ActsOnce seen (Init key state start) shown new result
   init_by done state start tells causes once puts =
       let Caused : CoordFault → Type 0 = Causes (init_refusal (kept_at shown.entries key) state start) (λ _. ⊥) in
@@ -74,7 +74,7 @@ module _ {D : Type 0} (seen : D → DiskView)
   pub init_acts : (done : Result (Unit {0}) CoordFault) (state start : ℤ) → FitsSigned w32 state → FitsSigned w64 start → Tells done result
       → IfErr done (Causes (init_refusal (kept_at shown.entries key) (to_z w32 (of_z w32 state)) (to_z w64 (of_z w64 start))) (λ _. ⊥))
       → WritesOnce seen (HasFailed seen) (IsInitialised shown.entries key (to_z w32 (of_z w32 state)) (to_z w64 (of_z w64 start))) shown new done
-      → StoresOne seen (IsInitRecord shown.entries key (to_z w32 (of_z w32 state)) (to_z w64 (of_z w64 start))) shown.journal new.journal done
+      → StoresOne seen (snapshot_frames shown.entries) (IsInitRecord shown.entries key (to_z w32 (of_z w32 state)) (to_z w64 (of_z w64 start))) shown.journal new.journal done
       → ActsOnce seen (Init key state start) now new result
   init_acts done state start f g tells causes once puts =
       subst (λ (p : StoreParts D). ActsOnce seen (Init key state start) p new result) same
@@ -86,7 +86,7 @@ module _ {D : Type 0} (seen : D → DiskView)
       → Tells done result
       → IfErr done (Causes (write_refusal (kept_at shown.entries key) state leader start runs) (IsTooMany shown.entries key start runs))
       → WritesOnce seen (HasFailed seen) (IsWritten shown.entries key state leader start runs) shown new done
-      → StoresOne seen (IsWriteRecord shown.entries key state leader start runs) shown.journal new.journal done
+      → StoresOne seen (snapshot_frames shown.entries) (IsWriteRecord shown.entries key state leader start runs) shown.journal new.journal done
       → ActsOnce seen (Write key state leader start batches) shown new result
   write_by done state leader start batches runs are tells causes once puts =
       let refusal = write_refusal (kept_at shown.entries key) state leader start runs in
@@ -97,7 +97,7 @@ module _ {D : Type 0} (seen : D → DiskView)
       acts seen (Write key state leader start batches) shown new (IsWritten shown.entries key state leader start runs)
       (λ es is. (batched _ _ (write_granted shown.entries key state leader start runs es is), refl))
       (λ es is. write_unraised shown.entries key state leader start runs es is) done result tells once
-      (as_this seen (IsWriteRecord shown.entries key state leader start runs) (IsRecordOf shown.entries (Write key state leader start batches))
+      (as_this seen (snapshot_frames shown.entries) (IsWriteRecord shown.entries key state leader start runs) (IsRecordOf shown.entries (Write key state leader start batches))
       shown.journal new.journal (λ one is. (runs, are, is)) done puts)
       (λ e is numeric. record {
         does = batched _ _ (write_refused shown.entries key state leader start runs e
@@ -114,7 +114,7 @@ module _ {D : Type 0} (seen : D → DiskView)
       (IsTooMany shown.entries key (to_z w64 (of_z w64 start)) runs))
       → WritesOnce seen (HasFailed seen)
       (IsWritten shown.entries key (to_z w32 (of_z w32 state)) (to_z w32 (of_z w32 leader)) (to_z w64 (of_z w64 start)) runs) shown new done
-      → StoresOne seen (IsWriteRecord shown.entries key (to_z w32 (of_z w32 state)) (to_z w32 (of_z w32 leader)) (to_z w64 (of_z w64 start)) runs)
+      → StoresOne seen (snapshot_frames shown.entries) (IsWriteRecord shown.entries key (to_z w32 (of_z w32 state)) (to_z w32 (of_z w32 leader)) (to_z w64 (of_z w64 start)) runs)
       shown.journal new.journal done
       → ActsOnce seen (Write key state leader start batches) now new result
   write_acts done state leader start batches runs are f g h tells causes once puts =
@@ -127,7 +127,7 @@ module _ {D : Type 0} (seen : D → DiskView)
 
   delete_there : (done : Result Bool CoordFault) → Tells done result → IfErr done (Causes None (λ _. ⊥))
       → WritesOnce seen (HasFailed seen) (IsForgotten shown.entries key) shown new done
-      → StoresOne seen (λ one. one ≡ Removal key) shown.journal new.journal done
+      → StoresOne seen (snapshot_frames shown.entries) (λ one. one ≡ Removal key) shown.journal new.journal done
       → ActsOnce seen (Delete key) shown new result
   delete_there done tells causes once puts =
       let Caused : CoordFault → Type 0 = Causes None (λ _. ⊥) in
@@ -155,7 +155,7 @@ module _ {D : Type 0} (seen : D → DiskView)
   pub delete_acts : (only_now : (d : D) (c : List ℕ) → (seen d).since (seen d).moment c → (seen d).image c) (done : Result Bool CoordFault) → Tells done result
       → (kept_at shown.entries key ≡ None → (done ≡ Ok false) × (new ≡ shown)) → IfErr done (Causes None (λ _. ⊥))
       → (IsSome (kept_at shown.entries key) → WritesOnce seen (HasFailed seen) (IsForgotten shown.entries key) shown new done)
-      → (IsSome (kept_at shown.entries key) → StoresOne seen (λ one. one ≡ Removal key) shown.journal new.journal done)
+      → (IsSome (kept_at shown.entries key) → StoresOne seen (snapshot_frames shown.entries) (λ one. one ≡ Removal key) shown.journal new.journal done)
       → ActsOnce seen (Delete key) now new result
   delete_acts only_now done tells absent causes once puts =
       subst (λ (p : StoreParts D). ActsOnce seen (Delete key) p new result) same

@@ -35,13 +35,13 @@ Carried seen op before after answer = (old : ForeignShardState) → Carries seen
 
 -- its record, and no other, is stored, and it had room
 abbrev pub PutsRecord : {D : Type 0} → (D → DiskView) → ForeignOp → StoreParts D → StoreParts D → Type 0
-PutsRecord seen op before after = ((one : StateRecord) × IsRecordOf before.entries op one × IsStored seen before.journal after.journal one)
+PutsRecord seen op before after = ((one : StateRecord) × IsRecordOf before.entries op one × IsStored seen (snapshot_frames before.entries) before.journal after.journal one)
     × ((one : StateRecord) × IsRecordOf before.entries op one × HasRoomFor before.journal.end one)
 
 -- it may be pending, or it had no room
 abbrev pub FailsToPut : {D : Type 0} → (D → DiskView) → ForeignOp → StoreParts D → StoreParts D → Type 0
 FailsToPut seen op before after = (one : StateRecord) × IsRecordOf before.entries op one
-    × (IsPending seen before.journal after.journal one ⊎ (2 ^ 62 < before.journal.end + (length (record_bytes one) + 5)))
+    × (IsPending seen (snapshot_frames before.entries) before.journal after.journal one ⊎ (2 ^ 62 < before.journal.end + (length (record_bytes one) + 5)))
 
 -- What a call does.
 pub record ActsOnce {D : Type 0} (seen : D → DiskView) (op : ForeignOp) (before after : StoreParts D) (result : Result ForeignAnswer NoMemory) : Type 0 where

@@ -13,7 +13,8 @@ use Rattle.share_model.specs.declared.fault.StoreFault.{StoreFault}
 use Rattle.share_model.specs.declared.fault.StoreFault.TheVariants.{Device, Full}
 use Rattle.share_model.specs.declared.run.Run.{Run}
 use Rattle.coord_checkpoint.specs.Disks.{HasFailed}
-use Rattle.coord_checkpoint.specs.Stores.{IsDue, Keeps, StoreParts as JournalParts, live_side}
+use Rattle.checkpoint_journal.specs.Checkpoints.{IsCheckpoint}
+use Rattle.coord_checkpoint.specs.Stores.{IsDue, Keeps, MaySeal, StoreParts as JournalParts, live_side}
 use Rattle.coord_checkpoint.specs.Writes.{IsQuietBut, MayCheckpoint, StaysOn, Tries, side}
 use Rattle.coord_checkpoint.proofs.Ends.{fit_of}
 use Rattle.coord_checkpoint.proofs.Made.{failed_later}
@@ -26,7 +27,7 @@ use Rattle.share_coord.specs.Putting.{stored_as}
 use Rattle.share_coord.specs.Recorded.{HasRoomFor, IsBased, IsPending, IsStored, IsWriteRecord, StoresOne, start_told, write_record}
 use Rattle.share_coord.specs.Rooms.{IsGranted, IsOwnRecord, IsOwnWritten}
 use Rattle.share_coord.specs.States.{states_of}
-use Rattle.share_coord.specs.Stored.{Entries, based, based_kept, kept_at, renewed, renewed_kept, snapshot_frames, with_kept}
+use Rattle.share_coord.specs.Stored.{Entries, based, based_kept, kept_at, renewed, renewed_kept, snapshot_frames, snapshot_record, with_kept}
 use Rattle.share_coord.specs.declared.fault.CoordFault.TheVariants.{Store as store_fault}
 use Rattle.share_coord.proofs.Held.{states_based}
 use Rattle.share_coord.proofs.Keys.{kept_based, some_is}
@@ -183,6 +184,14 @@ last_fits : (frames : List (List ℕ)) (frame : List ℕ) → AllByRecursion IsF
 last_fits [] frame h = h.0
 last_fits (f ∷ fs) frame h = last_fits fs frame h.1
 
+renewed_snapshots : (es : Entries) → snapshot_frames (renewed es) ≡ snapshot_frames es
+renewed_snapshots [] = refl
+renewed_snapshots (e ∷ es) = ap (λ (fs : List (List ℕ)). record_bytes (snapshot_record e.0 e.1.view) ∷ fs) (renewed_snapshots es)
+
+based_snapshots : (c : Bool) (es : Entries) → snapshot_frames (based c es) ≡ snapshot_frames es
+based_snapshots true es = renewed_snapshots es
+based_snapshots false es = refl
+
 module _ {D : Type 0} (seen : D → DiskView) (old mid new : StoreParts D) (key : KeyParts) (start : ℤ) (runs : List Run)
     (g : IsGranted old.entries key start runs old.room) (held : IsHeld seen old) (tidies : Tidies seen old mid)
     (told : Result (Unit {0}) StoreFault) (alone : StaysOn seen mid.journal new.journal told)
@@ -285,25 +294,44 @@ module _ {D : Type 0} (seen : D → DiskView) (old mid new : StoreParts D) (key 
   record_as one h = record_from old.entries key start runs tidies.checkpointed g.kept g.known one
       (subst (λ (l : Entries). IsOwnRecord l key start runs one) tidies.is h)
 
-  abbrev Moves : (frames : List (List ℕ)) (pending : Option (List ℕ)) → Type 0
-  Moves frames pending = (base : List (List ℕ)) × (seals : Option (List (List ℕ))) × (waits : Option (List ℕ)) × IsBased frames base
+  abbrev Moves : (frames : List (List ℕ)) (sealing : Option (List (List ℕ))) (pending : Option (List ℕ)) → Type 0
+  Moves frames sealing pending = (base : List (List ℕ)) × (seals : Option (List (List ℕ))) × (waits : Option (List ℕ))
+      × IsBased (snapshot_frames old.entries) frames base × MaySeal sealing (snapshot_frames old.entries) seals
       × ((waits ≡ pending) ⊎ (waits ≡ None)) × Keeps seen mid.journal base seals waits
 
   moves : (c : Bool) → Tries seen (snapshot_frames old.entries) old.journal mid.journal c → (frames : List (List ℕ)) (sealing : Option (List (List ℕ))) (pending : Option (List ℕ))
-      → Keeps seen old.journal frames sealing pending → Moves frames pending
+      → Keeps seen old.journal frames sealing pending → Moves frames sealing pending
   moves true tries frames sealing pending was =
-      let h = tries.made refl frames sealing pending was in (h.0, None, None, inr (snapshot_frames old.entries, h.1), inr refl, h.2)
+      let h = tries.made refl frames sealing pending was in
+      (h.0, None, None, inr h.1, (λ landed is. absurd (let clash : ⊥ = cc in clash)), inr refl, h.2)
   moves false tries frames sealing pending was =
-      let h = tries.kept refl frames sealing pending was in (frames, h.0, pending, inl refl, inl refl, h.2)
+      let h = tries.kept refl frames sealing pending was in (frames, h.0, pending, inl refl, h.1, inl refl, h.2)
 
-  based_on : (frames base last : List (List ℕ)) → IsBased frames base → IsBased base last → IsBased frames last
-  based_on frames base last h (inl is) = subst (IsBased frames) (sym is) h
-  based_on frames base last h (inr k) = inr k
+  -- a checkpoint changes no state, so one behind it would store the same
+  mid_snapshots : snapshot_frames mid.entries ≡ snapshot_frames old.entries
+  mid_snapshots = ap snapshot_frames tidies.is ∙ based_snapshots tidies.checkpointed old.entries
 
-  stored_behind : (one : StateRecord) → IsStored seen mid.journal new.journal one → IsStored seen old.journal new.journal one
+  based_on : (frames base last : List (List ℕ)) → IsBased (snapshot_frames old.entries) frames base → IsBased (snapshot_frames mid.entries) base last
+      → IsBased (snapshot_frames old.entries) frames last
+  based_on frames base last h (inl is) = subst (IsBased (snapshot_frames old.entries) frames) (sym is) h
+  based_on frames base last h (inr k) = inr (subst (λ (snapshots : List (List ℕ)). IsCheckpoint snapshots last) mid_snapshots k)
+
+  seals_on : (sealing mids seals : Option (List (List ℕ))) → MaySeal sealing (snapshot_frames old.entries) mids
+      → MaySeal mids (snapshot_frames mid.entries) seals → MaySeal sealing (snapshot_frames old.entries) seals
+  seals_on sealing mids seals first second landed is =
+      ⊎_elim (λ was. first landed was)
+      (λ made. inr (subst (λ (snapshots : List (List ℕ)). IsCheckpoint snapshots landed) mid_snapshots made)) (second landed is)
+
+  abbrev StoredFrom : StoreParts D → StateRecord → Type 0
+  StoredFrom from one = IsStored seen (snapshot_frames from.entries) from.journal new.journal one
+
+  abbrev PendingFrom : StoreParts D → StateRecord → Type 0
+  PendingFrom from one = IsPending seen (snapshot_frames from.entries) from.journal new.journal one
+
+  stored_behind : (one : StateRecord) → StoredFrom mid one → StoredFrom old one
   stored_behind one h frames sealing pending was =
       let m = moves tidies.checkpointed tidies.journal frames sealing pending was in
-      let s = h m.0 m.1 m.2 m.5 in
+      let s = h m.0 m.1 m.2 m.6 in
       (s.0, based_on frames m.0 s.0 m.3 s.1, s.2)
 
   waits_on : (pending mids waits : Option (List ℕ)) (one : List ℕ) → (mids ≡ pending) ⊎ (mids ≡ None)
@@ -311,20 +339,27 @@ module _ {D : Type 0} (seen : D → DiskView) (old mid new : StoreParts D) (key 
   waits_on pending mids waits one m (inl is) = ⊎_elim (λ e. inl (is ∙ e)) (λ e. inr (inl (is ∙ e))) m
   waits_on pending mids waits one m (inr h) = inr h
 
-  pending_behind : (one : StateRecord) → IsPending seen mid.journal new.journal one → IsPending seen old.journal new.journal one
+  pending_behind : (one : StateRecord) → PendingFrom mid one → PendingFrom old one
   pending_behind one h frames sealing pending was =
       let m = moves tidies.checkpointed tidies.journal frames sealing pending was in
-      let s = h m.0 m.1 m.2 m.5 in
-      (s.0, s.1, s.2, based_on frames m.0 s.0 m.3 s.3, waits_on pending m.2 s.2 (record_bytes one) m.4 s.4, s.5)
+      let s = h m.0 m.1 m.2 m.6 in (
+        s.0,
+        s.1,
+        s.2,
+        based_on frames m.0 s.0 m.3 s.3,
+        seals_on sealing m.1 s.1 m.4 s.4,
+        waits_on pending m.2 s.2 (record_bytes one) m.5 s.5,
+        s.6,
+      )
 
   -- what stands behind it is a frame
-  one_fits : (one : StateRecord) → IsStored seen old.journal new.journal one → IsFrame (record_bytes one)
+  one_fits : (one : StateRecord) → StoredFrom old one → IsFrame (record_bytes one)
   one_fits one h =
       let s = h held.1.frames held.1.sealing held.1.unwritten held.1.keeps in
       last_fits s.0 (record_bytes one) (fit_of seen (live_side new.journal) (s.0 ++ record_bytes one ∷ []) s.2.sides.written s.2.sides.stands)
 
-  module _ (stores : StoresOne seen (IsOwnRecord mid.entries key start runs) mid.journal new.journal (stored_as told)) where
-    pub tidied_stored : StoresOne seen Stored old.journal new.journal (stored_as told)
+  module _ (stores : StoresOne seen (snapshot_frames mid.entries) (IsOwnRecord mid.entries key start runs) mid.journal new.journal (stored_as told)) where
+    pub tidied_stored : StoresOne seen (snapshot_frames old.entries) Stored old.journal new.journal (stored_as told)
     tidied_stored = record {
       stored = on_ok_weaker (stored_as told) (λ h. (h.0, record_as h.0 h.1, stored_behind h.0 h.2)) stores.stored;
       pending = λ is. let h = stores.pending is in (h.0, record_as h.0 h.1, pending_behind h.0 h.2);
@@ -338,5 +373,5 @@ module _ {D : Type 0} (seen : D → DiskView) (old mid new : StoreParts D) (key 
       ];
     }
       where
-        room_for : old.journal.end + 33554437 ≤ 2 ^ 62 → (one : StateRecord) → IsStored seen old.journal new.journal one → HasRoomFor old.journal.end one
+        room_for : old.journal.end + 33554437 ≤ 2 ^ 62 → (one : StateRecord) → StoredFrom old one → HasRoomFor old.journal.end one
         room_for has one h = let small = (one_fits one h).1 in omega (arith, has, small)

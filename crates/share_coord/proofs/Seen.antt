@@ -6,7 +6,7 @@ use Rattle.share_model.specs.Keys.{KeyParts}
 use Rattle.share_model.specs.declared.run.Run.{Run}
 use Rattle.coord_checkpoint.specs.Stores.{Keeps, StoreParts as JournalParts}
 use Rattle.share_coord.specs.Parts.{StoreParts}
-use Rattle.share_coord.specs.Stored.{Entries, kept_at}
+use Rattle.share_coord.specs.Stored.{Entries, kept_at, snapshot_frames}
 use Rattle.share_coord.specs.Calls.{IsInitialised, IsWritten, IsForgotten}
 use Rattle.share_coord.specs.Holding.{Holds, WritesOnce}
 use Rattle.share_coord.specs.Recorded.{IsInitRecord, IsWriteRecord, StoresOne}
@@ -54,35 +54,35 @@ module _ {D T : Type 0} (seen : D → DiskView) (Failed : D → D → Type 0)
 -- and the record that it stores
 module _ {D T : Type 0} (seen : D → DiskView) (shown now new : StoreParts D) (r : Result T CoordFault) (key : KeyParts) (same : shown ≡ now) where
   pub stored_init : (state start : ℤ) → FitsSigned w32 state → FitsSigned w64 start
-      → StoresOne seen (IsInitRecord shown.entries key (to_z w32 (of_z w32 state)) (to_z w64 (of_z w64 start))) shown.journal new.journal r
-      → StoresOne seen (IsInitRecord now.entries key state start) now.journal new.journal r
+      → StoresOne seen (snapshot_frames shown.entries) (IsInitRecord shown.entries key (to_z w32 (of_z w32 state)) (to_z w64 (of_z w64 start))) shown.journal new.journal r
+      → StoresOne seen (snapshot_frames now.entries) (IsInitRecord now.entries key state start) now.journal new.journal r
   stored_init state start f g h =
-      subst (λ (p : StoreParts D). StoresOne seen (IsInitRecord p.entries key state start) p.journal new.journal r) same
-      (subst (λ (z : ℤ). StoresOne seen (IsInitRecord shown.entries key state z) shown.journal new.journal r) (to_z-of_z w64 start g)
-      (subst (λ (z : ℤ). StoresOne seen (IsInitRecord shown.entries key z (to_z w64 (of_z w64 start))) shown.journal new.journal r)
+      subst (λ (p : StoreParts D). StoresOne seen (snapshot_frames p.entries) (IsInitRecord p.entries key state start) p.journal new.journal r) same
+      (subst (λ (z : ℤ). StoresOne seen (snapshot_frames shown.entries) (IsInitRecord shown.entries key state z) shown.journal new.journal r) (to_z-of_z w64 start g)
+      (subst (λ (z : ℤ). StoresOne seen (snapshot_frames shown.entries) (IsInitRecord shown.entries key z (to_z w64 (of_z w64 start))) shown.journal new.journal r)
       (to_z-of_z w32 state f) h))
 
   pub stored_write : (state leader start : ℤ) (runs : List Run) → FitsSigned w32 state → FitsSigned w32 leader → FitsSigned w64 start
-      → StoresOne seen (IsWriteRecord shown.entries key (to_z w32 (of_z w32 state)) (to_z w32 (of_z w32 leader)) (to_z w64 (of_z w64 start)) runs)
+      → StoresOne seen (snapshot_frames shown.entries) (IsWriteRecord shown.entries key (to_z w32 (of_z w32 state)) (to_z w32 (of_z w32 leader)) (to_z w64 (of_z w64 start)) runs)
       shown.journal new.journal r
-      → StoresOne seen (IsWriteRecord now.entries key state leader start runs) now.journal new.journal r
+      → StoresOne seen (snapshot_frames now.entries) (IsWriteRecord now.entries key state leader start runs) now.journal new.journal r
   stored_write state leader start runs f g i h =
-      subst (λ (p : StoreParts D). StoresOne seen (IsWriteRecord p.entries key state leader start runs) p.journal new.journal r) same
-      (as_this seen (IsWriteRecord shown.entries key (to_z w32 (of_z w32 state)) (to_z w32 (of_z w32 leader)) (to_z w64 (of_z w64 start)) runs)
+      subst (λ (p : StoreParts D). StoresOne seen (snapshot_frames p.entries) (IsWriteRecord p.entries key state leader start runs) p.journal new.journal r) same
+      (as_this seen (snapshot_frames shown.entries) (IsWriteRecord shown.entries key (to_z w32 (of_z w32 state)) (to_z w32 (of_z w32 leader)) (to_z w64 (of_z w64 start)) runs)
       (IsWriteRecord shown.entries key state leader start runs) shown.journal new.journal
       (λ one is. write_stored shown.entries key state leader start runs one f g i is) r h)
 
   pub stored_own : (start : ℤ) (runs : List Run) → FitsSigned w64 start
-      → StoresOne seen (IsOwnRecord shown.entries key (to_z w64 (of_z w64 start)) runs) shown.journal new.journal r
-      → StoresOne seen (IsOwnRecord now.entries key start runs) now.journal new.journal r
+      → StoresOne seen (snapshot_frames shown.entries) (IsOwnRecord shown.entries key (to_z w64 (of_z w64 start)) runs) shown.journal new.journal r
+      → StoresOne seen (snapshot_frames now.entries) (IsOwnRecord now.entries key start runs) now.journal new.journal r
   stored_own start runs h stored =
-      subst (λ (p : StoreParts D). StoresOne seen (IsOwnRecord p.entries key start runs) p.journal new.journal r) same
-      (subst (λ (z : ℤ). StoresOne seen (IsOwnRecord shown.entries key z runs) shown.journal new.journal r) (to_z-of_z w64 start h) stored)
+      subst (λ (p : StoreParts D). StoresOne seen (snapshot_frames p.entries) (IsOwnRecord p.entries key start runs) p.journal new.journal r) same
+      (subst (λ (z : ℤ). StoresOne seen (snapshot_frames shown.entries) (IsOwnRecord shown.entries key z runs) shown.journal new.journal r) (to_z-of_z w64 start h) stored)
 
-  pub stored_remove : (IsSome (kept_at shown.entries key) → StoresOne seen (λ one. one ≡ Removal key) shown.journal new.journal r)
-      → IsSome (kept_at now.entries key) → StoresOne seen (λ one. one ≡ Removal key) now.journal new.journal r
+  pub stored_remove : (IsSome (kept_at shown.entries key) → StoresOne seen (snapshot_frames shown.entries) (λ one. one ≡ Removal key) shown.journal new.journal r)
+      → IsSome (kept_at now.entries key) → StoresOne seen (snapshot_frames now.entries) (λ one. one ≡ Removal key) now.journal new.journal r
   stored_remove h =
-      subst (λ (p : StoreParts D). IsSome (kept_at p.entries key) → StoresOne seen (λ one. one ≡ Removal key) p.journal new.journal r) same h
+      subst (λ (p : StoreParts D). IsSome (kept_at p.entries key) → StoresOne seen (snapshot_frames p.entries) (λ one. one ≡ Removal key) p.journal new.journal r) same h
 
 pub either_there : (o : Option KeptState) → (o ≡ None) ⊎ IsSome o
 either_there None = inl refl

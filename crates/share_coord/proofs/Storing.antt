@@ -25,9 +25,9 @@ use Rattle.share_coord.proofs.Keys.{some_is}
 use Rattle.share_coord.proofs.Spans.{laid_once}
 
 -- what is refused before it writes stores none
-pub unstored : {D T : Type 0} (seen : D → DiskView) (Is : StateRecord → Type 0) (journal : JournalParts D) (e : CoordFault)
-    → ((fault : StoreFault) → e ≢ Store fault) → StoresOne {T = T} seen Is journal journal (Err e)
-unstored seen Is journal e other = record {
+pub unstored : {D T : Type 0} (seen : D → DiskView) (snapshots : List (List ℕ)) (Is : StateRecord → Type 0) (journal : JournalParts D) (e : CoordFault)
+    → ((fault : StoreFault) → e ≢ Store fault) → StoresOne {T = T} seen snapshots Is journal journal (Err e)
+unstored seen snapshots Is journal e other = record {
   stored = tt;
   pending = λ is. absurd (other Device (err_of e _ is));
   full = λ end is. absurd (other (Full end) (err_of e _ is));
@@ -36,8 +36,8 @@ unstored seen Is journal e other = record {
 
 -- ---- the record is told otherwise
 
-module _ {D : Type 0} (seen : D → DiskView) (P Q : StateRecord → Type 0) (old new : JournalParts D) (f : (one : StateRecord) → P one → Q one) where
-  pub as_ok : {S T : Type 0} (x : S) (y : T) → StoresOne {T = S} seen P old new (Ok x) → StoresOne {T = T} seen Q old new (Ok y)
+module _ {D : Type 0} (seen : D → DiskView) (snapshots : List (List ℕ)) (P Q : StateRecord → Type 0) (old new : JournalParts D) (f : (one : StateRecord) → P one → Q one) where
+  pub as_ok : {S T : Type 0} (x : S) (y : T) → StoresOne {T = S} seen snapshots P old new (Ok x) → StoresOne {T = T} seen snapshots Q old new (Ok y)
   as_ok x y h = record {
     stored = (h.stored.0, f h.stored.0 h.stored.1, h.stored.2);
     pending = λ is. absurd (ok_is_no_err y _ is);
@@ -45,7 +45,7 @@ module _ {D : Type 0} (seen : D → DiskView) (P Q : StateRecord → Type 0) (ol
     room = (h.room.0, f h.room.0 h.room.1, h.room.2);
   }
 
-  pub as_err : {S T : Type 0} (e : CoordFault) → StoresOne {T = S} seen P old new (Err e) → StoresOne {T = T} seen Q old new (Err e)
+  pub as_err : {S T : Type 0} (e : CoordFault) → StoresOne {T = S} seen snapshots P old new (Err e) → StoresOne {T = T} seen snapshots Q old new (Err e)
   as_err e h = record {
     stored = tt;
     pending = λ is. let x = h.pending (ap Err (err_of e _ is)) in (x.0, f x.0 x.1, x.2);
@@ -53,7 +53,7 @@ module _ {D : Type 0} (seen : D → DiskView) (P Q : StateRecord → Type 0) (ol
     room = tt;
   }
 
-  pub as_this : {T : Type 0} (r : Result T CoordFault) → StoresOne seen P old new r → StoresOne seen Q old new r
+  pub as_this : {T : Type 0} (r : Result T CoordFault) → StoresOne seen snapshots P old new r → StoresOne seen snapshots Q old new r
   as_this (Ok x) h = as_ok x x h
   as_this (Err e) h = as_err e h
 
@@ -67,11 +67,11 @@ module _ {D : Type 0} (seen : D → DiskView) (snapshots : List (List ℕ)) (pla
   one_put false one two p q = p ∙ sym q
   one_put true one two p q = some_is one two (sym p ∙ q)
 
-  based_by : (b : Bool) (frames base : List (List ℕ)) → IsBase frames snapshots b base → IsBased frames base
+  based_by : (b : Bool) (frames base : List (List ℕ)) → IsBase frames snapshots b base → IsBased snapshots frames base
   based_by false frames base from = inl from
-  based_by true frames base from = inr (snapshots, from)
+  based_by true frames base from = inr from
 
-  pub stores_ok : {T : Type 0} (x : T) → r ≡ Ok tt → StoresOne seen Is old new (Ok x)
+  pub stores_ok : {T : Type 0} (x : T) → r ≡ Ok tt → StoresOne seen snapshots Is old new (Ok x)
   stores_ok x at = record {
     stored = (
       puts.chosen,
@@ -95,7 +95,7 @@ module _ {D : Type 0} (seen : D → DiskView) (snapshots : List (List ℕ)) (pla
   waits_by waits pending (inr (inl was)) = inl was.1
   waits_by waits pending (inr (inr h)) = inr (inr (h.3 ∙ ap (λ (o : StateRecord). Some (record_bytes o)) (one_put c h.0 puts.chosen h.1 puts.is)))
 
-  pub stores_err : {T : Type 0} (e : CoordFault) → r ≡ Err e → StoresOne {T = T} seen Is old new (Err e)
+  pub stores_err : {T : Type 0} (e : CoordFault) → r ≡ Err e → StoresOne {T = T} seen snapshots Is old new (Err e)
   stores_err e at = record {
     stored = tt;
     pending = λ here. (
@@ -103,7 +103,7 @@ module _ {D : Type 0} (seen : D → DiskView) (snapshots : List (List ℕ)) (pla
       is c puts.chosen puts.is,
       λ frames sealing pending kept.
           let h = on_err_at r e _ at puts.failed frames sealing pending kept in
-          (h.base, h.seals, h.waits, based_by c frames h.base h.from, waits_by h.waits pending h.which, h.keeps),
+          (h.base, h.seals, h.waits, based_by c frames h.base h.from, (λ landed is. (h.may landed is).1), waits_by h.waits pending h.which, h.keeps),
     );
     full = λ end here.
         let f = puts.full all seals waits keeps end (at ∙ ap Err (err_of e _ here)) in (f.0, (plain, is false plain refl, f.2));

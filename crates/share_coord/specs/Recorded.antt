@@ -6,7 +6,7 @@
 use Rattle.std.specs.Prelude.{◌≡◌, ◌⊎◌, ◌<◌, ◌≤◌, ◌+◌, ◌^◌, ℕ, ℤ, pos, List, [], ◌∷◌, ◌++◌, length}
 use Rattle.std.specs.Prelude.{int_lt, nat_lt, ◌&&◌, if◌then◌else◌, Some, None, Bool, Result, Err, OnOk}
 use Rattle.std.specs.declared.option.Option.{Option}
-use Rattle.coord_checkpoint.specs.Stores.{Keeps, StoreParts as JournalParts}
+use Rattle.coord_checkpoint.specs.Stores.{Keeps, MaySeal, StoreParts as JournalParts}
 use Rattle.checkpoint_journal.specs.Checkpoints.{IsCheckpoint}
 use Rattle.edge_io.specs.Views.{DiskView}
 use Rattle.share_model.specs.Keys.{KeyParts}
@@ -88,28 +88,30 @@ pub record IsWriteRecord (old : Entries) (key : KeyParts) (state_epoch leader_ep
 abbrev pub HasRoomFor : ℕ → StateRecord → Type 0
 HasRoomFor end one = end + (length (record_bytes one) + 5) ≤ 2 ^ 62
 
--- the frames that were there; or those of a checkpoint in their place
-abbrev pub IsBased : List (List ℕ) → List (List ℕ) → Type 0
-IsBased frames base = (base ≡ frames) ⊎ ((snapshots : List (List ℕ)) × IsCheckpoint snapshots base)
+-- the frames that were there; or those of a checkpoint of these snapshots in their place
+abbrev pub IsBased : (snapshots : List (List ℕ)) → List (List ℕ) → List (List ℕ) → Type 0
+IsBased snapshots frames base = (base ≡ frames) ⊎ IsCheckpoint snapshots base
 
 -- the frame of the record stands behind those that were there, or behind those of a checkpoint, and nothing is pending
-abbrev pub IsStored : {D : Type 0} → (D → DiskView) → JournalParts D → JournalParts D → StateRecord → Type 0
-IsStored seen old new one = (frames : List (List ℕ)) (sealing : Option (List (List ℕ))) (pending : Option (List ℕ)) →
-    Keeps seen old frames sealing pending → (base : List (List ℕ)) × IsBased frames base × Keeps seen new (base ++ record_bytes one ∷ []) None None
-
--- the frames are those that were there, or those of a checkpoint, and what is pending is the frame from before, that of the record, or none
-abbrev pub IsPending : {D : Type 0} → (D → DiskView) → JournalParts D → JournalParts D → StateRecord → Type 0
-IsPending seen old new one = (frames : List (List ℕ)) (sealing : Option (List (List ℕ))) (pending : Option (List ℕ)) →
+abbrev pub IsStored : {D : Type 0} → (D → DiskView) → (snapshots : List (List ℕ)) → JournalParts D → JournalParts D → StateRecord → Type 0
+IsStored seen snapshots old new one = (frames : List (List ℕ)) (sealing : Option (List (List ℕ))) (pending : Option (List ℕ)) →
     Keeps seen old frames sealing pending →
-    (base : List (List ℕ)) × (seals : Option (List (List ℕ))) × (waits : Option (List ℕ)) × IsBased frames base
-    × ((waits ≡ pending) ⊎ ((waits ≡ None) ⊎ (waits ≡ Some (record_bytes one)))) × Keeps seen new base seals waits
+    (base : List (List ℕ)) × IsBased snapshots frames base × Keeps seen new (base ++ record_bytes one ∷ []) None None
 
--- A call that stores one record, which `Is` tells: its frame, and no other but those of a checkpoint before it, is stored, may be
--- pending after a device fault, or has no room. So the call is refused as full where this frame has no room, and nowhere else.
-pub record StoresOne {D T : Type 0} (seen : D → DiskView) (Is : StateRecord → Type 0) (old new : JournalParts D)
+-- The frames are those that were there, or those of a checkpoint, and what is pending is the frame from before, that of the record, or none.
+-- A checkpoint whose seal may still land is the one from before, or one of these snapshots.
+abbrev pub IsPending : {D : Type 0} → (D → DiskView) → (snapshots : List (List ℕ)) → JournalParts D → JournalParts D → StateRecord → Type 0
+IsPending seen snapshots old new one = (frames : List (List ℕ)) (sealing : Option (List (List ℕ))) (pending : Option (List ℕ)) →
+    Keeps seen old frames sealing pending →
+    (base : List (List ℕ)) × (seals : Option (List (List ℕ))) × (waits : Option (List ℕ)) × IsBased snapshots frames base
+    × MaySeal sealing snapshots seals × ((waits ≡ pending) ⊎ ((waits ≡ None) ⊎ (waits ≡ Some (record_bytes one)))) × Keeps seen new base seals waits
+
+-- A call that stores one record, which `Is` tells: its frame, and no other but those of a checkpoint of these snapshots before it, is stored,
+-- may be pending after a device fault, or has no room. So the call is refused as full where this frame has no room, and nowhere else.
+pub record StoresOne {D T : Type 0} (seen : D → DiskView) (snapshots : List (List ℕ)) (Is : StateRecord → Type 0) (old new : JournalParts D)
     (result : Result T CoordFault) : Type 0 where
-  pub stored : OnOk result ((one : StateRecord) × Is one × IsStored seen old new one)
-  pub pending : result ≡ Err (store_fault Device) → (one : StateRecord) × Is one × IsPending seen old new one
+  pub stored : OnOk result ((one : StateRecord) × Is one × IsStored seen snapshots old new one)
+  pub pending : result ≡ Err (store_fault Device) → (one : StateRecord) × Is one × IsPending seen snapshots old new one
   pub full : (end : ℕ) → result ≡ Err (store_fault (Full end)) →
       (end ≡ old.end) × ((one : StateRecord) × Is one × (2 ^ 62 < end + (length (record_bytes one) + 5)))
   pub room : OnOk result ((one : StateRecord) × Is one × HasRoomFor old.end one)

@@ -7,7 +7,7 @@ ghost use Rattle.edge_io.specs.Armed.{ArmsAlone, RunsOn};
 ghost use Rattle.coord_checkpoint.specs.Disks.{HasFailed, RunsBoth};
 ghost use Rattle.coord_checkpoint.specs.Writes.{StaysOn};
 ghost use Rattle.share_model.specs.Keys.{key_cmp};
-ghost use Rattle.share_coord.specs.Stored.{Entries, kept_at};
+ghost use Rattle.share_coord.specs.Stored.{Entries, kept_at, snapshot_frames};
 ghost use Rattle.share_coord.specs.Calls.{Causes, IsInitialised, IsWritten, IsTooMany, IsForgotten, init_refusal, write_refusal};
 ghost use Rattle.share_coord.specs.Holding.{Holds, IsHeld, Tidies, WritesOnce};
 ghost use Rattle.share_coord.specs.Opening.{IsOpened, IsNotOpened};
@@ -33,10 +33,10 @@ use std::marker::Model;
 /// Share-partition states by their keys, which survive a crash at any moment.
 ///
 /// A contract sees the states in the order of their keys (byte order of group, topic and partition), and the journal
-/// of their records on the two disks. Each call that changes a state adds one record: it takes its memory first, then
-/// makes the device calls of one append, and changes the states in memory once these are done. Where a device call
-/// fails the states are as before, and the record is *pending*: a crash may leave it or not, until a later call is
-/// answered Ok.
+/// of their records on the two disks. Each call that changes a state, but for [`Coord::raise`] and
+/// [`Coord::raise_all`], adds one record: it takes its memory first, then makes the device calls of one append, and
+/// changes the states in memory once these are done. Where a device call fails the states are as before, and the record
+/// is *pending*: a crash may leave it or not, until a later call is answered Ok.
 ///
 /// Before a call that stores a record a checkpoint of all keys is tried where the journal has many more records than
 /// there are keys. It drops the older records. One that fails, for want of memory too, refuses nothing, and the next
@@ -109,7 +109,8 @@ impl<D: Disk> Coord<D> {
         ensures causes { IfErr result (Causes (init_refusal (kept_at self.old.entries key.now) state_epoch start) (λ _. ⊥)) }
         ensures once { WritesOnce D.seen (HasFailed D.seen)
             (IsInitialised self.old.entries key.now state_epoch start) self.old self.new result }
-        ensures stored { StoresOne D.seen (IsInitRecord self.old.entries key.now state_epoch start)
+        ensures stored { StoresOne D.seen (snapshot_frames self.old.entries)
+            (IsInitRecord self.old.entries key.now state_epoch start)
             self.old.journal self.new.journal result }
         ensures runs { RunsOn D.seen self.old.journal.first.disk self.new.journal.first.disk × RunsOn D.seen self.old.journal.second.disk self.new.journal.second.disk }
         ensures room { self.new.room ≡ self.old.room }
@@ -120,7 +121,8 @@ impl<D: Disk> Coord<D> {
     /// Sets both epochs of a key, and its start unless that is -1, and lays these runs over its rows, a later run
     /// winning over an earlier one; rows below the start go. It is stored as an update with the rows that are
     /// written, and as a snapshot where the key has 500 updates since its last one, or where it lowers a start that
-    /// [`Coord::raise`] raised.
+    /// [`Coord::raise`] raised since the key was last written, by a record or a checkpoint. Where no start is given and
+    /// the key's was raised since a call last stored the key, the update tells the start.
     ///
     /// Refused are an epoch below 0, a start below -1 or a run out of range; then a key that isn't there; a leader
     /// epoch below the known one; a state epoch below the known one; and more than 1000000 runs. It costs the runs
@@ -139,7 +141,7 @@ impl<D: Disk> Coord<D> {
             (IsTooMany self.old.entries key.now start runs.now)) }
         ensures once { WritesOnce D.seen (HasFailed D.seen)
             (IsWritten self.old.entries key.now state_epoch leader_epoch start runs.now) self.old self.new result }
-        ensures stored { StoresOne D.seen
+        ensures stored { StoresOne D.seen (snapshot_frames self.old.entries)
             (IsWriteRecord self.old.entries key.now state_epoch leader_epoch start runs.now)
             self.old.journal self.new.journal result }
         ensures runs { RunsOn D.seen self.old.journal.first.disk self.new.journal.first.disk × RunsOn D.seen self.old.journal.second.disk self.new.journal.second.disk }
@@ -181,7 +183,8 @@ impl<D: Disk> Coord<D> {
         requires { IsGranted self.old.entries key.now start runs.now self.old.room }
         ensures alone { StaysOn D.seen self.old.journal self.new.journal result }
         ensures once { WritesOnce D.seen (HasFailed D.seen) (IsOwnWritten self.old.entries key.now start runs.now) self.old self.new (stored_as result) }
-        ensures stored { StoresOne D.seen (IsOwnRecord self.old.entries key.now start runs.now)
+        ensures stored { StoresOne D.seen (snapshot_frames self.old.entries)
+            (IsOwnRecord self.old.entries key.now start runs.now)
             self.old.journal self.new.journal (stored_as result) }
         ensures runs { RunsOn D.seen self.old.journal.first.disk self.new.journal.first.disk × RunsOn D.seen self.old.journal.second.disk self.new.journal.second.disk }
         ensures room { self.new.room ≡ self.old.room }
@@ -197,7 +200,8 @@ impl<D: Disk> Coord<D> {
         ensures once { IsSome (kept_at self.old.entries key.now) →
             WritesOnce D.seen (HasFailed D.seen) (IsForgotten self.old.entries key.now) self.old self.new result }
         ensures stored { IsSome (kept_at self.old.entries key.now) →
-            StoresOne D.seen (λ one. one ≡ Removal key.now) self.old.journal self.new.journal result }
+            StoresOne D.seen (snapshot_frames self.old.entries)
+            (λ one. one ≡ Removal key.now) self.old.journal self.new.journal result }
         ensures runs { RunsOn D.seen self.old.journal.first.disk self.new.journal.first.disk × RunsOn D.seen self.old.journal.second.disk self.new.journal.second.disk }
         ensures room { self.new.room ≡ self.old.room }
     {

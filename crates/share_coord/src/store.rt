@@ -216,7 +216,8 @@ impl<D: Disk> Store<D> {
             (left_by self.old.table.entries key.now (shown planned.change.kept) planned.fresh) }
         ensures once { WritesOnce D.seen (HasFailed D.seen)
             (LeavesPlanned self.old.table.entries key.now planned) (parts_of self.old) (parts_of self.new) result }
-        ensures stored { StoresOne D.seen (IsEither planned.change.written (record_of planned.fresh)) self.old.journal self.new.journal result }
+        ensures stored { StoresOne D.seen (snapshot_frames self.old.table.entries)
+            (IsEither planned.change.written (record_of planned.fresh)) self.old.journal self.new.journal result }
         ensures causes { IfErr result (Causes None (λ _. ⊥)) }
         ensures runs { RunsOn D.seen self.old.journal.first.disk self.new.journal.first.disk × RunsOn D.seen self.old.journal.second.disk self.new.journal.second.disk }
         ensures room { self.new.room ≡ self.old.room }
@@ -251,7 +252,8 @@ impl<D: Disk> Store<D> {
         requires first { IsFirst (shown planned.change.kept) planned.fresh }
         ensures once { WritesOnce D.seen (HasFailed D.seen)
             (LeavesPlanned self.old.table.entries key.now planned) (parts_of self.old) (parts_of self.new) result }
-        ensures stored { StoresOne D.seen (IsEither planned.change.written (record_of planned.fresh)) self.old.journal self.new.journal result }
+        ensures stored { StoresOne D.seen (snapshot_frames self.old.table.entries)
+            (IsEither planned.change.written (record_of planned.fresh)) self.old.journal self.new.journal result }
         ensures causes { IfErr result (Causes None (λ _. ⊥)) }
         ensures runs { RunsOn D.seen self.old.journal.first.disk self.new.journal.first.disk × RunsOn D.seen self.old.journal.second.disk self.new.journal.second.disk }
         ensures room { self.new.room ≡ self.old.room }
@@ -277,7 +279,8 @@ impl<D: Disk> Store<D> {
         ensures causes { IfErr result (Causes (init_refusal (kept_at self.old.table.entries key.now) state_epoch start) (λ _. ⊥)) }
         ensures once { WritesOnce D.seen (HasFailed D.seen)
             (IsInitialised self.old.table.entries key.now state_epoch start) (parts_of self.old) (parts_of self.new) result }
-        ensures stored { StoresOne D.seen (IsInitRecord self.old.table.entries key.now state_epoch start)
+        ensures stored { StoresOne D.seen (snapshot_frames self.old.table.entries)
+            (IsInitRecord self.old.table.entries key.now state_epoch start)
             self.old.journal self.new.journal result }
         ensures runs { RunsOn D.seen self.old.journal.first.disk self.new.journal.first.disk × RunsOn D.seen self.old.journal.second.disk self.new.journal.second.disk }
         ensures room { self.new.room ≡ self.old.room }
@@ -325,7 +328,7 @@ impl<D: Disk> Store<D> {
             (IsTooMany self.old.table.entries key.now start runs.now)) }
         ensures once { WritesOnce D.seen (HasFailed D.seen)
             (IsWritten self.old.table.entries key.now state_epoch leader_epoch start runs.now) (parts_of self.old) (parts_of self.new) result }
-        ensures stored { StoresOne D.seen
+        ensures stored { StoresOne D.seen (snapshot_frames self.old.table.entries)
             (IsWriteRecord self.old.table.entries key.now state_epoch leader_epoch start runs.now)
             self.old.journal self.new.journal result }
         ensures runs { RunsOn D.seen self.old.journal.first.disk self.new.journal.first.disk × RunsOn D.seen self.old.journal.second.disk self.new.journal.second.disk }
@@ -370,7 +373,8 @@ impl<D: Disk> Store<D> {
             WritesOnce D.seen (HasFailed D.seen)
             (IsForgotten self.old.table.entries key.now) (parts_of self.old) (parts_of self.new) result }
         ensures stored { IsSome (kept_at self.old.table.entries key.now) →
-            StoresOne D.seen (λ one. one ≡ Removal key.now) self.old.journal self.new.journal result }
+            StoresOne D.seen (snapshot_frames self.old.table.entries)
+            (λ one. one ≡ Removal key.now) self.old.journal self.new.journal result }
         ensures runs { RunsOn D.seen self.old.journal.first.disk self.new.journal.first.disk × RunsOn D.seen self.old.journal.second.disk self.new.journal.second.disk }
         ensures room { self.new.room ≡ self.old.room }
         ensures roomy { HasRoom self.new }
@@ -459,7 +463,8 @@ impl<D: Disk> Store<D> {
         ensures alone { StaysOn D.seen self.old.journal self.new.journal result }
         ensures once { WritesOnce D.seen (HasFailed D.seen)
             (IsOwnWritten self.old.table.entries key.now start runs.now) (parts_of self.old) (parts_of self.new) (stored_as result) }
-        ensures stored { StoresOne D.seen (IsOwnRecord self.old.table.entries key.now start runs.now)
+        ensures stored { StoresOne D.seen (snapshot_frames self.old.table.entries)
+            (IsOwnRecord self.old.table.entries key.now start runs.now)
             self.old.journal self.new.journal (stored_as result) }
         ensures runs { RunsOn D.seen self.old.journal.first.disk self.new.journal.first.disk × RunsOn D.seen self.old.journal.second.disk self.new.journal.second.disk }
         ensures room { self.new.room ≡ self.old.room }

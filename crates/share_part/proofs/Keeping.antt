@@ -12,7 +12,7 @@ use Rattle.share_coord.specs.Parts.{KeptState, StoreParts}
 use Rattle.share_coord.specs.Putting.{stored_as}
 use Rattle.share_coord.specs.Recorded.{IsWriteRecord, StoresOne}
 use Rattle.share_coord.specs.Rooms.{IsGranted, IsOwnRecord, IsOwnWritten}
-use Rattle.share_coord.specs.Stored.{Entries, based, kept_at}
+use Rattle.share_coord.specs.Stored.{Entries, based, kept_at, snapshot_frames}
 use Rattle.share_coord.specs.declared.fault.CoordFault.{CoordFault}
 use Rattle.share_coord.proofs.Behind.{granted_based, tidied_once, tidied_stored}
 use Rattle.state_records.specs.declared.record.StateRecord.{StateRecord}
@@ -86,8 +86,8 @@ module _ (es : Entries) (key : KeyParts) (start : Option ℕ) (number : ℤ) (ru
       any_moment = within_as seen (IsOwnWritten es key number runs) (IsStored es key start runs) old new own_written w.any_moment;
     }
 
-    one_as : (done : Result (Unit {0}) CoordFault) → StoresOne seen (IsOwnRecord es key number runs) old.journal new.journal done
-        → StoresOne seen (IsRecordOf es key start runs) old.journal new.journal done
+    one_as : (done : Result (Unit {0}) CoordFault) → StoresOne seen (snapshot_frames old.entries) (IsOwnRecord es key number runs) old.journal new.journal done
+        → StoresOne seen (snapshot_frames old.entries) (IsRecordOf es key start runs) old.journal new.journal done
     one_as done s = record {
       stored = on_ok done (λ w. (w.0, own_record w.0 w.1, w.2)) s.stored;
       pending = λ e. let w = s.pending e in (w.0, own_record w.0 w.1, w.2);
@@ -97,11 +97,11 @@ module _ (es : Entries) (key : KeyParts) (start : Option ℕ) (number : ℤ) (ru
 
     module _ (told : Result (Unit {0}) StoreFault) (fault : Option StoreFault) (same : stored_as told ≡ answer_of fault) where
       pub stored_own : WritesOnce seen (HasFailed seen) (IsOwnWritten es key number runs) old new (stored_as told)
-          → StoresOne seen (IsOwnRecord es key number runs) old.journal new.journal (stored_as told)
+          → StoresOne seen (snapshot_frames old.entries) (IsOwnRecord es key number runs) old.journal new.journal (stored_as told)
           → StoresOnce seen (HasFailed seen) (IsStored es key start runs) (IsRecordOf es key start runs) old new fault
       stored_own once one = record {
         once = once_as (answer_of fault) (subst (WritesOnce seen (HasFailed seen) (IsOwnWritten es key number runs) old new) same once);
-        one = one_as (answer_of fault) (subst (StoresOne seen (IsOwnRecord es key number runs) old.journal new.journal) same one);
+        one = one_as (answer_of fault) (subst (StoresOne seen (snapshot_frames old.entries) (IsOwnRecord es key number runs) old.journal new.journal) same one);
       }
 
 -- ---- with one that was tried
@@ -121,13 +121,13 @@ module _ {D : Type 0} (seen : D → DiskView) (old mid new : StoreParts D) (key 
 
   module _ (held : IsHeld seen old) (told : Result (Unit {0}) StoreFault) (alone : StaysOn seen mid.journal new.journal told)
       (once : WritesOnce seen (HasFailed seen) (IsOwnWritten mid.entries key number runs) mid new (stored_as told))
-      (one : StoresOne seen (IsOwnRecord mid.entries key number runs) mid.journal new.journal (stored_as told))
+      (one : StoresOne seen (snapshot_frames mid.entries) (IsOwnRecord mid.entries key number runs) mid.journal new.journal (stored_as told))
       (fault : Option StoreFault) (same : stored_as told ≡ answer_of fault) where
     abbrev Once : ℤ → ℤ → ℤ → Type 0
     Once s l n = WritesTidied seen (HasFailed seen) (IsWritten old.entries key s l n runs) old new (answer_of fault)
 
     abbrev One : ℤ → ℤ → ℤ → Type 0
-    One s l n = StoresOne seen (IsWriteRecord old.entries key s l n runs) old.journal new.journal (answer_of fault)
+    One s l n = StoresOne seen (snapshot_frames old.entries) (IsWriteRecord old.entries key s l n runs) old.journal new.journal (answer_of fault)
 
     abbrev state_epoch : ℤ
     state_epoch = r.kept.view.state_epoch
@@ -145,6 +145,6 @@ module _ {D : Type 0} (seen : D → DiskView) (old mid new : StoreParts D) (key 
       one = subst (λ (n : ℤ). One (pos 0) (pos 0) n) is
           (subst (λ (l : ℤ). One (pos 0) l number) r.epochs.1
           (subst (λ (s : ℤ). One s leader_epoch number) r.epochs.0
-          (subst (λ (d : Result (Unit {0}) CoordFault). StoresOne seen (IsWriteRecord old.entries key state_epoch leader_epoch number runs) old.journal new.journal d) same
+          (subst (λ (d : Result (Unit {0}) CoordFault). StoresOne seen (snapshot_frames old.entries) (IsWriteRecord old.entries key state_epoch leader_epoch number runs) old.journal new.journal d) same
           (tidied_stored seen old mid new key number runs its held tidies told alone once one))));
     }

@@ -24,7 +24,7 @@ use Rattle.share_coord.specs.Calls.{IsInitialised}
 use Rattle.share_coord.specs.Holding.{WritesOnce}
 use Rattle.share_coord.specs.Parts.{StoreParts}
 use Rattle.share_coord.specs.Recorded.{IsInitRecord, StoresOne}
-use Rattle.share_coord.specs.Stored.{Entries, kept_at}
+use Rattle.share_coord.specs.Stored.{Entries, kept_at, snapshot_frames}
 use Rattle.share_coord.specs.declared.fault.CoordFault.{CoordFault}
 use Rattle.share_part.specs.Collecting.{IsPlanOf, LieAtSlots, left_by}
 use Rattle.share_part.specs.Foreseeing.{HasChange, IsPlanBehind}
@@ -116,13 +116,13 @@ made_table seen Failed conf group log old new result key start is at there absen
 -- a table whose write was answered, by the start as it was given
 pub made_of : {D : Type 0} (seen : D → DiskView) (Failed : D → D → Type 0) (old new : StoreParts D) (key : KeyParts) (z : ℤ) (done : Result (Unit {0}) CoordFault)
     (start : ℕ) → z ≡ pos start → (result : Result ThenOutcome want) → Tells done result → WritesOnce seen Failed (IsInitialised old.entries key (pos 0) z) old new done
-    → StoresOne seen (IsInitRecord old.entries key (pos 0) z) old.journal new.journal done
+    → StoresOne seen (snapshot_frames old.entries) (IsInitRecord old.entries key (pos 0) z) old.journal new.journal done
     → MakesOnce seen Failed (IsInitialised old.entries key (pos 0) (pos start)) (IsTableRecord old.entries key start) old new result
 made_of seen Failed old new key z done start is result tells once one = record {
   done = done;
   tells = tells;
   once = subst (λ (n : ℤ). WritesOnce seen Failed (IsInitialised old.entries key (pos 0) n) old new done) is once;
-  one = subst (λ (n : ℤ). StoresOne seen (IsInitRecord old.entries key (pos 0) n) old.journal new.journal done) is one;
+  one = subst (λ (n : ℤ). StoresOne seen (snapshot_frames old.entries) (IsInitRecord old.entries key (pos 0) n) old.journal new.journal done) is one;
 }
 
 -- ---- the table that a group will have

@@ -5,7 +5,7 @@ use Rattle.share_coord.specs.Calls.{write_refusal}
 use Rattle.share_coord.specs.Holding.{WritesTidied}
 use Rattle.share_coord.specs.Parts.{StoreParts}
 use Rattle.share_coord.specs.Recorded.{StoresOne}
-use Rattle.share_coord.specs.Stored.{kept_at}
+use Rattle.share_coord.specs.Stored.{kept_at, snapshot_frames}
 use Rattle.share_model.specs.ForeignRules.{share_state_at, size_of}
 use Rattle.share_model.specs.Held.{Held}
 use Rattle.share_model.specs.Keys.{KeyParts}
@@ -77,8 +77,8 @@ module _ {D : Type 0} {from : ℕ} (conf : PartConfParts) (log : List Batch) (gr
         is = found.2;
         once = subst (λ (r : List Run). WritesTidied seen Failed (IsStored old.entries (key_of conf group) change.start r) old new (answer_of fault)) runs_are
             (subst (λ (k : KeyParts). WritesTidied seen Failed (IsStored old.entries k change.start runs) old new (answer_of fault)) key_is once.once);
-        one = subst (λ (r : List Run). StoresOne seen (IsRecordOf old.entries (key_of conf group) change.start r) old.journal new.journal (answer_of fault)) runs_are
-            (subst (λ (k : KeyParts). StoresOne seen (IsRecordOf old.entries k change.start runs) old.journal new.journal (answer_of fault)) key_is once.one);
+        one = subst (λ (r : List Run). StoresOne seen (snapshot_frames old.entries) (IsRecordOf old.entries (key_of conf group) change.start r) old.journal new.journal (answer_of fault)) runs_are
+            (subst (λ (k : KeyParts). StoresOne seen (snapshot_frames old.entries) (IsRecordOf old.entries k change.start runs) old.journal new.journal (answer_of fault)) key_is once.one);
       }
 
       pub all_stored : (fault : Option StoreFault) → fault ≡ None → Once fault → IsActsStored seen Failed conf log group acts held old new None

@@ -29,7 +29,7 @@ use Rattle.share_coord.specs.Holding.{Holds, IsWithin, WritesTidied}
 use Rattle.share_coord.specs.Parts.{KeptState, StoreParts}
 use Rattle.share_coord.specs.Recorded.{IsWriteRecord, StoresOne}
 use Rattle.state_records.specs.declared.record.StateRecord.{StateRecord}
-use Rattle.share_coord.specs.Stored.{Entries, kept_at}
+use Rattle.share_coord.specs.Stored.{Entries, kept_at, snapshot_frames}
 use Rattle.share_coord.specs.declared.fault.CoordFault.{CoordFault}
 use Rattle.share_coord.specs.declared.fault.CoordFault.TheVariants.{Store}
 use Rattle.edge_io.specs.Views.{DiskView}
@@ -56,7 +56,7 @@ answer_of (Some fault) = Err (Store fault)
 pub record StoresOnce {D : Type 0} (seen : D → DiskView) (Failed : D → D → Type 0)
     (Written : Entries → Type 0) (Is : StateRecord → Type 0) (old new : StoreParts D) (fault : Option StoreFault) : Type 0 where
   pub once : WritesTidied seen Failed Written old new (answer_of fault)
-  pub one : StoresOne seen Is old.journal new.journal (answer_of fault)
+  pub one : StoresOne seen (snapshot_frames old.entries) Is old.journal new.journal (answer_of fault)
 
 -- at each moment since a write began that tries no checkpoint, a crash leaves what stood at entry, or what it writes
 abbrev pub WritesWithin : {D : Type 0} → (D → DiskView) → (Written : Entries → Type 0) → (old new : StoreParts D) → Type 0
@@ -88,7 +88,8 @@ pub record IsActsStored {D : Type 0} (seen : D → DiskView) (Failed : D → D �
   pub known : share_state_at (states_of old.entries) (key_of conf group) ≡ Some state
   pub is : IsChange conf.limit acts log (table_of state held) change
   pub once : WritesTidied seen Failed (IsStored old.entries (key_of conf group) change.start change.runs) old new (answer_of fault)
-  pub one : StoresOne seen (IsRecordOf old.entries (key_of conf group) change.start change.runs) old.journal new.journal (answer_of fault)
+  pub one : StoresOne seen (snapshot_frames old.entries) (IsRecordOf old.entries (key_of conf group) change.start change.runs)
+      old.journal new.journal (answer_of fault)
 
 -- Acts on the table of a group, by the fault that is told: `was` is what the group held, `same` says that all groups hold what they did, and
 -- `ends` that the named offsets aren't held any more.

@@ -30,9 +30,13 @@ returns-in-Err-result-clause-once g c =
 
 pub returns-in-Err-result-clause-stored : goal.returns-in-Err-result-clause-stored
 returns-in-Err-result-clause-stored g c =
+    let es = c.args.self.now.table.entries in
     let p = c.args.planned in
-    stores_err g.D.Disk.seen _ p.change.written (record_of p.fresh) c.args.self.now.journal c.put-put.new.self.journal
-    c.put-put.result.checkpointed c.put-put.result.result c.put-put.ensures.puts c.requires.held.1.frames c.requires.held.1.sealing c.requires.held.1.unwritten c.requires.held.1.keeps _ (λ b one is. (b, is)) c.in-Err-result.fault c.in-Err-result.is
+    let before = left_again es c.args.key.now (shown p.change.kept) c.requires.absent _ c.in_default.ensures.entries in
+    let puts = subst (λ (l : Entries). Puts g.D.Disk.seen (snapshot_frames l) p.change.written (record_of p.fresh) c.args.self.now.journal c.put-put.new.self.journal
+    c.put-put.result.checkpointed c.put-put.result.result) before c.put-put.ensures.puts in
+    stores_err g.D.Disk.seen (snapshot_frames es) p.change.written (record_of p.fresh) c.args.self.now.journal c.put-put.new.self.journal
+    c.put-put.result.checkpointed c.put-put.result.result puts c.requires.held.1.frames c.requires.held.1.sealing c.requires.held.1.unwritten c.requires.held.1.keeps _ (λ b one is. (b, is)) c.in-Err-result.fault c.in-Err-result.is
 
 pub returns-in-Err-result-clause-causes : goal.returns-in-Err-result-clause-causes
 returns-in-Err-result-clause-causes g c = put_causes c.put-put.result.result c.in-Err-result.fault c.in-Err-result.is c.put-put.ensures.puts.causes
@@ -54,6 +58,10 @@ returns-clause-once g c =
 
 pub returns-clause-stored : goal.returns-clause-stored
 returns-clause-stored g c =
+    let es = c.args.self.now.table.entries in
     let p = c.args.planned in
-    stores_ok g.D.Disk.seen _ p.change.written (record_of p.fresh) c.args.self.now.journal c.put-put.new.self.journal
-    c.put-put.result.checkpointed c.put-put.result.result c.put-put.ensures.puts c.requires.held.1.frames c.requires.held.1.sealing c.requires.held.1.unwritten c.requires.held.1.keeps _ (λ b one is. (b, is)) tt c.in_default-result.is
+    let before = left_again es c.args.key.now (shown p.change.kept) c.requires.absent _ c.in_default.ensures.entries in
+    let puts = subst (λ (l : Entries). Puts g.D.Disk.seen (snapshot_frames l) p.change.written (record_of p.fresh) c.args.self.now.journal c.put-put.new.self.journal
+    c.put-put.result.checkpointed c.put-put.result.result) before c.put-put.ensures.puts in
+    stores_ok g.D.Disk.seen (snapshot_frames es) p.change.written (record_of p.fresh) c.args.self.now.journal c.put-put.new.self.journal
+    c.put-put.result.checkpointed c.put-put.result.result puts c.requires.held.1.frames c.requires.held.1.sealing c.requires.held.1.unwritten c.requires.held.1.keeps _ (λ b one is. (b, is)) tt c.in_default-result.is

@@ -39,11 +39,11 @@ returns-in_default-empty_snapshot-clause-refused g c =
     λ fault is. absurd (some_none fault (sym is ∙ none))
 
 pub returns-in-Some-clause-stored : goal.returns-in-Some-clause-stored
-returns-in-Some-clause-stored g c = unstored g.D.Disk.seen _ _ c.in-Some.fault
+returns-in-Some-clause-stored g c = unstored g.D.Disk.seen _ _ _ c.in-Some.fault
     (init_apart (found c.get-known.result) (to_z w32 (of_z w32 c.args.state_epoch)) (to_z w64 (of_z w64 c.args.start)) c.in-Some.fault (sym c.init_refusal.ensures ∙ c.in-Some.is))
 
 pub returns-in_default-empty_snapshot-clause-stored : goal.returns-in_default-empty_snapshot-clause-stored
-returns-in_default-empty_snapshot-clause-stored g c = unstored g.D.Disk.seen _ _ _ memory_apart
+returns-in_default-empty_snapshot-clause-stored g c = unstored g.D.Disk.seen _ _ _ _ memory_apart
 
 pub returns-in-Some-clause-runs : goal.returns-in-Some-clause-runs
 returns-in-Some-clause-runs g c = (runs_none g.D.Disk.seen c.args.self.now.journal.first.disk, runs_none g.D.Disk.seen c.args.self.now.journal.second.disk)
@@ -129,7 +129,7 @@ returns-then-is_known-clause-stored g c =
     let value = c.get-known.ensures in
     let next = c.next_snapshot-next.ensures ∙ ap next_snapshot value in
     let known : c.is_some-is_known.result ≡ is_some (kept_at es key) = c.is_some-is_known.ensures ∙ (sym (copied_some c.get-known.result) ∙ ap is_some value) in
-    as_this g.D.Disk.seen _ (IsInitRecord es key c.args.state_epoch c.args.start) _ _
+    as_this g.D.Disk.seen _ _ (IsInitRecord es key c.args.state_epoch c.args.start) _ _
     (λ one h. init_record_as es key c.args.state_epoch c.args.start one c.ranges.state_epoch c.ranges.start (init_one es key state start [] c.next_snapshot-next.result c.is_some-is_known.result c.in-Ok.change.written (shown c.in-Ok.change.kept) c.first_where-fresh.result
     refl next known c.in-Ok.ensures.written c.in-Ok.ensures.kept c.first_where-fresh.ensures h.0 one h.1)) c.replace.result c.replace.ensures.stored
 
@@ -174,7 +174,7 @@ returns-else-is_known-clause-stored g c =
     let value = c.get-known.ensures in
     let next = c.next_snapshot-next.ensures ∙ ap next_snapshot value in
     let known : c.is_some-is_known.result ≡ is_some (kept_at es key) = c.is_some-is_known.ensures ∙ (sym (copied_some c.get-known.result) ∙ ap is_some value) in
-    as_this g.D.Disk.seen _ (IsInitRecord es key c.args.state_epoch c.args.start) _ _
+    as_this g.D.Disk.seen _ _ (IsInitRecord es key c.args.state_epoch c.args.start) _ _
     (λ one h. init_record_as es key c.args.state_epoch c.args.start one c.ranges.state_epoch c.ranges.start (init_one es key state start [] c.next_snapshot-next.result c.is_some-is_known.result c.in-Ok.change.written (shown c.in-Ok.change.kept) c.first_where-fresh.result
     refl next known c.in-Ok.ensures.written c.in-Ok.ensures.kept c.first_where-fresh.ensures h.0 one h.1)) c.add.result c.add.ensures.stored
 

@@ -62,14 +62,14 @@ planned-requires-clause-runs g c =
     (in_range (found c.get-known.result) c.args.state_epoch c.args.leader_epoch c.args.start c.args.runs.now none).runs_are
 
 pub returns-in-Some-clause-stored : goal.returns-in-Some-clause-stored
-returns-in-Some-clause-stored g c = unstored g.D.Disk.seen _ _ c.in-Some.fault
+returns-in-Some-clause-stored g c = unstored g.D.Disk.seen _ _ _ c.in-Some.fault
     (write_apart (found c.get-known.result) (to_z w32 (of_z w32 c.args.state_epoch)) (to_z w32 (of_z w32 c.args.leader_epoch)) (to_z w64 (of_z w64 c.args.start)) c.args.runs.now c.in-Some.fault (sym c.write_refusal.ensures ∙ c.in-Some.is))
 
 pub returns-in_default-known-clause-stored : goal.returns-in_default-known-clause-stored
-returns-in_default-known-clause-stored g c = unstored g.D.Disk.seen _ _ _ unknown_apart
+returns-in_default-known-clause-stored g c = unstored g.D.Disk.seen _ _ _ _ unknown_apart
 
 pub returns-in-Err-clause-stored : goal.returns-in-Err-clause-stored
-returns-in-Err-clause-stored g c = unstored g.D.Disk.seen _ _ c.in-Err.fault (plan_apart c.in-Err.fault c.in-Err.ensures.causes)
+returns-in-Err-clause-stored g c = unstored g.D.Disk.seen _ _ _ c.in-Err.fault (plan_apart c.in-Err.fault c.in-Err.ensures.causes)
 
 pub planned-requires-clause-snapshot : goal.planned-requires-clause-snapshot
 planned-requires-clause-snapshot g c =
@@ -114,7 +114,7 @@ returns-clause-stored g c =
     let es = c.args.self.now.table.entries in
     let key = c.args.key.now in
     let known : kept_at es key ≡ Some (shown c.in-Some-known.kept.now) = sym c.get-known.ensures ∙ ap found c.in-Some-known.is in
-    as_this g.D.Disk.seen _ (IsWriteRecord es key c.args.state_epoch c.args.leader_epoch c.args.start c.args.runs.now) _ _
+    as_this g.D.Disk.seen _ _ (IsWriteRecord es key c.args.state_epoch c.args.leader_epoch c.args.start c.args.runs.now) _ _
     (λ one h. write_stored es key c.args.state_epoch c.args.leader_epoch c.args.start c.args.runs.now one
     c.ranges.state_epoch c.ranges.leader_epoch c.ranges.start (c.in-Ok.ensures.plan.records es known h.0 one h.1)) c.replace.result c.replace.ensures.stored
 

@@ -296,7 +296,7 @@ returns-in-Err-clause-stored g c =
     let long : length c.deref_mut.result.now ≡ length (record_bytes plain) + 5 = ap (λ (l : List ℕ). length l) c.deref_mut.ensures.value ∙ c.own_frame.ensures.len in
     let puts = c.put_framed.ensures.puts plain c.own_frame.ensures.valid is long (snapshot_frames es) in
     let planned = plan es key z runs room over rows after own told f in
-    as_this g.D.Disk.seen (IsOwnRecord es key z runs) (IsOwnRecord es key c.args.start runs) _ _ (λ one h. subst (λ (s : ℤ). IsOwnRecord es key s runs one) same h) _
+    as_this g.D.Disk.seen (snapshot_frames es) (IsOwnRecord es key z runs) (IsOwnRecord es key c.args.start runs) _ _ (λ one h. subst (λ (s : ℤ). IsOwnRecord es key s runs one) same h) _
     (stores_err g.D.Disk.seen (snapshot_frames es) plain None c.args.self.now.journal c.put_framed.new.journal false (stored_as c.put_framed.result) puts
     c.requires.held.1.frames c.requires.held.1.sealing c.requires.held.1.unwritten c.requires.held.1.keeps _ (own_stored es key z runs room over rows after own told f) _ (ap stored_as c.in-Err.is))
 
@@ -463,7 +463,7 @@ returns-clause-stored g c =
     let long : length c.deref_mut.result.now ≡ length (record_bytes plain) + 5 = ap (λ (l : List ℕ). length l) c.deref_mut.ensures.value ∙ c.own_frame.ensures.len in
     let puts = c.put_framed.ensures.puts plain c.own_frame.ensures.valid is long (snapshot_frames es) in
     let planned = plan es key z runs room over rows after own told f in
-    as_this g.D.Disk.seen (IsOwnRecord es key z runs) (IsOwnRecord es key c.args.start runs) _ _ (λ one h. subst (λ (s : ℤ). IsOwnRecord es key s runs one) same h) _
+    as_this g.D.Disk.seen (snapshot_frames es) (IsOwnRecord es key z runs) (IsOwnRecord es key c.args.start runs) _ _ (λ one h. subst (λ (s : ℤ). IsOwnRecord es key s runs one) same h) _
     (stores_ok g.D.Disk.seen (snapshot_frames es) plain None c.args.self.now.journal c.put_framed.new.journal false (stored_as c.put_framed.result) puts
     c.requires.held.1.frames c.requires.held.1.sealing c.requires.held.1.unwritten c.requires.held.1.keeps _ (own_stored es key z runs room over rows after own told f) tt (ap stored_as c.in_default-put_framed.is))
 
