@@ -29,6 +29,7 @@ use Rattle.share_coord.specs.Unwritten.{AreLevel}
 use Rattle.share_coord.specs.Holding.{Holds}
 use Rattle.share_coord.specs.States.{states_of}
 use Rattle.share_part.specs.Deleting.{Deleted, DeletesOnce, IsTellableDelete}
+use Rattle.share_part.proofs.Deleting.{same_journal}
 use Rattle.share_part.specs.Hosting.{PartConfParts, AreHosted, key_of}
 use Rattle.share_part.specs.Failures.{RunOnBoth}
 use Rattle.share_part.specs.Following.{IsFetch}
@@ -402,7 +403,12 @@ module _ {D : Type 0} (seen : D → DiskView) where
 
   pub delete_on : (old new : OpenPart D) (now : ℕ) (to : ℤ) (answer : DeleteAnswer) → DeletesOnce seen holding now to old new answer
       → Runs old.log.journal.disk new.log.journal.disk → OnLog old new
-  delete_on old new now to answer once runs = record { runs = runs; ends = λ t k. once.ends; states = once.states; conf = once.conf }
+  delete_on old new now to answer once runs = record {
+    runs = runs;
+    ends = λ t k. once.ends;
+    states = same_journal answer old.states new.states once.states;
+    conf = once.conf;
+  }
 
   pub delete_leads : (old new : OpenPart D) (now : ℕ) (to : ℤ) (answer : DeleteAnswer) → OnLog old new → QuietDelete old new answer
       → Deleted seen holding now to old new answer → Fed new → (s : PartShardState) → Carried old.conf old s

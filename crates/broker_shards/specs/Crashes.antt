@@ -4,14 +4,14 @@
 -- the crate that makes it. What is found behind any act stands for the state that the history has then.
 -- For example while a batch is produced, the log of three records is found with or without what was pending, or with the batch, and on the two
 -- disks of the tables nothing new is found.
-use Rattle.std.specs.Prelude.{◌⊎◌, ℕ, Some, max}
+use Rattle.std.specs.Prelude.{◌⊎◌, ℕ, ℤ, List, Some, max}
 use Rattle.edge_io.specs.Moments.{LeavesOnly}
 use Rattle.edge_io.specs.Views.{DiskView}
 use Rattle.share_model.specs.Held.{Held}
-use Rattle.part_log.specs.Shards.{IsLogOf, at_end, log_at}
+use Rattle.part_log.specs.Shards.{HasNoFault, HasRoomAt, HasRoomForMark, IsLogOf, at_end, log_at}
 use Rattle.part_log.specs.Starts.LogWrite.{Adds}
 use Rattle.share_coord.specs.Parts.{StoreParts}
-use Rattle.share_part.specs.Deleting.{IsToDelete, and_mark}
+use Rattle.share_part.specs.Deleting.{IsFoundDeleting, IsToDelete}
 use Rattle.share_part.specs.Following.{HasNothingToWrite}
 use Rattle.share_part.specs.Once.{IsNothingDue}
 use Rattle.share_part.specs.Shards.{Carries, PartParts, PartShardState}
@@ -23,15 +23,24 @@ use Rattle.broker_shards.specs.declared.part.PartAsk.TheVariants as asks
 abbrev pub FindsNothingNew : {D : Type 0} → (D → DiskView) → D → D → Type 0
 FindsNothingNew seen old new = LeavesOnly seen old new (seen old).image
 
--- on the disk of the log: with a batch, the log that was carried, with or without its pending write, or with this one; with a delete, that log or the
--- one that starts at the target
+-- the batch is stored, or its write fails: it has no fault, and there is room for it
+abbrev pub IsToAdd : (end : ℕ) → PartShardState → List ℕ → Type 0
+IsToAdd end s batch = HasNoFault batch × HasRoomAt end (at_end s.log.batches batch)
+
+-- the mark of a delete is stored, or its write fails
+abbrev pub IsToMark : (end : ℕ) → PartShardState → ℤ → Type 0
+IsToMark end s to = (target : ℕ) × IsToDelete (log_at s.log) to target × HasRoomForMark end
+
+-- On the disk of the log. With a batch: the log that was carried, with or without its pending write, or with this one; with a delete: that log
+-- or the one that starts at the target. Where there is nothing to write, nothing new.
 abbrev pub FoundOnLog : {D W : Type 0} → (D → DiskView) → (W → Held) → PartAsk → PartParts D W → PartParts D W → Type 0
 FoundOnLog seen holding (asks.Produce batch) old new = (s : PartShardState) → Carries seen holding old s →
     LeavesOnly seen old.log.journal.disk new.log.journal.disk
     (λ c. IsLogOf s.log c ⊎ IsLogOf (record { batches = s.log.batches; start = s.log.start; pending = Some (Adds (at_end s.log.batches batch)) }) c)
+    × ((IsToAdd old.log.journal.end s batch → ⊥) → FindsNothingNew seen old.log.journal.disk new.log.journal.disk)
 FoundOnLog seen holding (asks.Delete to) old new = (s : PartShardState) → Carries seen holding old s →
-    LeavesOnly seen old.log.journal.disk new.log.journal.disk
-    (λ c. IsLogOf s.log c ⊎ ((target : ℕ) × IsToDelete (log_at s.log) to target × IsLogOf (and_mark s.log target) c))
+    LeavesOnly seen old.log.journal.disk new.log.journal.disk (IsFoundDeleting s.log to)
+    × ((IsToMark old.log.journal.end s to → ⊥) → FindsNothingNew seen old.log.journal.disk new.log.journal.disk)
 FoundOnLog seen holding (asks.Visit visit) old new = FindsNothingNew seen old.log.journal.disk new.log.journal.disk
 FoundOnLog seen holding (asks.Look group) old new = FindsNothingNew seen old.log.journal.disk new.log.journal.disk
 FoundOnLog seen holding asks.Expire old new = FindsNothingNew seen old.log.journal.disk new.log.journal.disk

@@ -1,6 +1,7 @@
 -- A delete as a step of the shard.
-use Rattle.std.proofs.Common.{◌≡◌, ◌≢◌, ◌⊎◌, ⊎_elim, ◌∙◌, inl, inr, refl, sym, ap, subst, arith, ℕ, ◌<◌, ◌≤◌, max, pos, List, Option, Some, None}
+use Rattle.std.proofs.Common.{◌≡◌, ◌≢◌, ◌⊎◌, ⊎_elim, ◌∙◌, inl, inr, refl, sym, ap, subst, arith, ℕ, ◌+◌, ◌^◌, ◌<◌, ◌≤◌, max, pos, List, Option, Some, None}
 use Rattle.std.specs.Prelude.{ℤ, Result, Ok, Err, ◌↔◌}
+use Rattle.std.proofs.lemmas.Bool.{cases_lt}
 use Rattle.std.specs.Option.{IfSome, option_map}
 use Rattle.edge_io.specs.Causes.{Rose}
 use Rattle.edge_io.specs.Moments.{LeavesOnly}
@@ -14,7 +15,7 @@ use Rattle.share_model.specs.declared.delete.DeleteAnswer.TheVariants.{Done, Out
 use Rattle.share_model.specs.declared.fault.StoreFault.{StoreFault}
 use Rattle.share_model.specs.declared.fault.StoreFault.TheVariants.{Device, Full}
 use Rattle.part_log.specs.Logs.{IsLogText, IsStoredLog, IsWithin, Keeps, LogParts, RaisesOnce, and_pending, log_in}
-use Rattle.part_log.specs.Shards.{CarriesLog, IsLogOf, LogShardState, StepsRaise, log_at}
+use Rattle.part_log.specs.Shards.{CarriesLog, HasRoomForMark, IsLogOf, LogShardState, StepsRaise, log_at}
 use Rattle.part_log.specs.Starts.{Log, LogWrite}
 use Rattle.part_log.specs.Starts.LogWrite.{Marks}
 use Rattle.share_coord.specs.Holding.{Holds}
@@ -24,7 +25,7 @@ use Rattle.share_coord.specs.States.{states_of}
 use Rattle.share_coord.specs.Stored.{Entries}
 use Rattle.share_coord.specs.Unwritten.{AreLevel, raised_all}
 use Rattle.share_coord.proofs.Recovered.{level_all, level_pending, pending_all, states_all}
-use Rattle.share_part.specs.Deleting.{Deletes, DeletesOnce, IsToDelete, and_mark, holds_from, target_of}
+use Rattle.share_part.specs.Deleting.{Deletes, DeletesOnce, IsFoundDeleting, IsToDelete, KeepsStore, holds_from, target_of}
 use Rattle.share_part.specs.Hosting.{AreHosted}
 use Rattle.share_part.specs.Shards.{Carries, IsPendingHosted, PartParts, PartShardState, held_in}
 use Rattle.share_part.proofs.Raised.{hosted_raised, pending_raised}
@@ -51,6 +52,10 @@ pub not_none : (target : Option ℕ) (to : ℕ) (answer : DeleteAnswer) (end at 
 not_none target to answer end at some other =
     (λ e. absurd (other e), λ h. absurd (let never : ◌≡◌ {A = Option ℕ} (Some to) None = sym some ∙ h.0 in let clash : ⊥ = cc in clash))
 
+-- the disks of the tables stay
+pub same_journal : {D : Type 0} (answer : DeleteAnswer) (before after : StoreParts D) → KeepsStore answer before after → after.journal ≡ before.journal
+same_journal {D} answer before after keeps = ⊎_elim (λ same. ap (λ (s : StoreParts D). s.journal) same) (λ raised. ap (λ (s : StoreParts D). s.journal) raised.2) keeps
+
 module _ {D W : Type 0} (seen : D → DiskView) (holding : W → Held) (now : ℕ) (to : ℤ) (old : PartParts D W) (clock : ℕ) (at : clock ≡ max old.clock now) where
   -- with another log and the raised clock
   abbrev with_log : LogParts D → PartParts D W
@@ -64,7 +69,7 @@ module _ {D W : Type 0} (seen : D → DiskView) (holding : W → Held) (now : �
 
   -- what a crash may leave of the log at a moment
   abbrev Leaves : LogShardState → List ℕ → Type 0
-  Leaves log x = IsLogOf log x ⊎ ((target : ℕ) × IsToDelete (log_at log) to target × IsLogOf (and_mark log target) x)
+  Leaves log = IsFoundDeleting log to
 
   -- ---- nothing is deleted
 
@@ -102,7 +107,7 @@ module _ {D W : Type 0} (seen : D → DiskView) (holding : W → Held) (now : �
       any_moment = λ s c. record { later = omega arith; each = λ x here. inl (log_there s c x (only_now old.log.journal.disk x here)); before = λ t x le was. inl was };
       unwritten = λ none. refl;
       ends = omega arith;
-      states = refl;
+      states = inl refl;
       conf = refl;
     }
 
@@ -169,6 +174,13 @@ module _ {D W : Type 0} (seen : D → DiskView) (holding : W → Held) (now : �
     later_by (Err Device) o = let ends = (o.device refl).0.end in omega (arith, ends)
     later_by (Err (Full end)) o = let ends = ap (λ (l : LogParts D). l.journal.end) (o.unchanged end refl) in omega (arith, ends)
 
+    -- where there is no room nothing is written
+    unwritten : (HasRoomForMark old.log.journal.end → ⊥) → log ≡ old.log
+    unwritten none = elim (cases_lt (2 ^ 62) (old.log.journal.end + 13)) [
+      | inl past ↦ once.unchanged old.log.journal.end ((once.full old.log.journal.end).1 (refl, past))
+      | inr le ↦ absurd (none le)
+    ]
+
     quiet_by : (r : Result (Unit {0}) StoreFault) → RaisesOnce seen old.log log target r → r ≢ Err Device → IsQuiet seen old.log.journal.disk log.journal.disk
     quiet_by (Ok done) o none = o.quiet
     quiet_by (Err Device) o none = absurd (none refl)
@@ -201,9 +213,9 @@ module _ {D W : Type 0} (seen : D → DiskView) (holding : W → Held) (now : �
       quiet = λ none. quiet_by result once (λ e. none (ap (λ (f : StoreFault). Store f) (let same : fault ≡ Device = fault_is (sym is ∙ e) in same)));
       sound = λ e. (once.device (is ∙ ap (λ (f : StoreFault). Err f) (let same : fault ≡ Device = cc in same))).2;
       any_moment = moments;
-      unwritten = λ none. absurd (none target (is_target, above));
+      unwritten = λ none. unwritten (λ room. none target (is_target, above) room);
       ends = later_by result once;
-      states = refl;
+      states = inl refl;
       conf = refl;
     }
       where
@@ -213,6 +225,7 @@ module _ {D W : Type 0} (seen : D → DiskView) (holding : W → Held) (now : �
     -- it is stored, and each table starts there or behind
     module _ (states : StoreParts D) (windows : List (List ℕ × W)) (sound : IsStoredLog old.log.batches)
         (entries : states.entries ≡ raised_all (pos target) old.states.entries) (journal : states.journal ≡ old.states.journal)
+        (room : states.room ≡ old.states.room)
         (holds : (pending : Option Entries) → Holds seen old.states pending → Holds seen states (option_map (raised_all (pos target)) pending))
         (held : (group : List ℕ) → held_in holding windows group ≡ holds_from target (held_in holding old.windows group)) where
       abbrev pub raised_parts : PartParts D W
@@ -263,8 +276,8 @@ module _ {D W : Type 0} (seen : D → DiskView) (holding : W → Held) (now : �
         quiet = λ none. quiet_by result once (λ e. let never : ◌≡◌ {A = Result (Unit {0}) StoreFault} (Ok done) (Err Device) = sym is ∙ e in let clash : ⊥ = cc in clash);
         sound = λ e. absurd (let clash : ⊥ = cc in clash);
         any_moment = moments;
-        unwritten = λ none. absurd (none target (is_target, above));
+        unwritten = λ none. unwritten (λ room. none target (is_target, above) room);
         ends = later_by result once;
-        states = journal;
+        states = inr (target, refl, λ i. record { journal = journal i; entries = entries i; room = room i });
         conf = refl;
       }

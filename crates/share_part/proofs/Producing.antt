@@ -261,6 +261,7 @@ module _ {D W : Type 0} (seen : D → DiskView) (holding : W → Held) (now : �
     quiet = λ none. quiet_same (once.unchanged NoMemory is (λ f. let clash : ⊥ = cc in clash));
     sound = λ e. absurd (let clash : ⊥ = cc in clash);
     any_moment = moments;
+    refused = λ fault told other. once.unchanged NoMemory is (λ f. let clash : ⊥ = cc in clash);
     ends = ends;
     states = refl;
     conf = refl;
@@ -301,6 +302,7 @@ module _ {D W : Type 0} (seen : D → DiskView) (holding : W → Held) (now : �
     quiet = λ none. quiet result once (λ is. none (ap (placed_at start) is));
     sound = λ is. sound (told_err start (Store Device) is);
     any_moment = moments;
+    refused = λ fault told other. once.unchanged fault (told_err start fault told) other;
     ends = ends;
     states = refl;
     conf = refl;

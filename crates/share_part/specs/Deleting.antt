@@ -20,10 +20,12 @@ use Rattle.share_model.specs.declared.delete.DeleteAnswer.{DeleteAnswer}
 use Rattle.share_model.specs.declared.delete.DeleteAnswer.TheVariants.{Done, OutOfRange, Store}
 use Rattle.share_model.specs.declared.fault.StoreFault.TheVariants.{Device}
 use Rattle.part_log.specs.Logs.{log_in}
-use Rattle.part_log.specs.Shards.{IsLogOf, LogShardState, Raises, StepsRaise, log_at}
+use Rattle.part_log.specs.Shards.{HasRoomForMark, IsLogOf, LogShardState, Raises, StepsRaise, log_at}
 use Rattle.part_log.specs.Starts.{Log}
 use Rattle.part_log.specs.Starts.LogWrite.{Marks}
+use Rattle.share_coord.specs.Parts.{StoreParts}
 use Rattle.share_coord.specs.Raising.{raised_states}
+use Rattle.share_coord.specs.Unwritten.{raised_all}
 use Rattle.share_part.specs.Shards.{Carries, IsStill, PartParts, PartShardState}
 
 -- the offset below which records go, if it is one up to the log's end
@@ -87,6 +89,19 @@ IsTellableDelete (Store fault) = Unit {0}
 abbrev pub and_mark : LogShardState → ℕ → LogShardState
 and_mark log start = record { batches = log.batches; start = log.start; pending = Some (Marks start) }
 
+-- what a crash may find of the log while records are deleted: the log at entry, with or without its pending write, or with this mark
+abbrev pub IsFoundDeleting : LogShardState → ℤ → List ℕ → Type 0
+IsFoundDeleting log to content =
+    IsLogOf log content ⊎ ((target : ℕ) × IsToDelete (log_at log) to target × IsLogOf (and_mark log target) content)
+
+-- each table in memory starts there or behind, and the disks stay
+abbrev pub all_raised : {D : Type 0} → ℕ → StoreParts D → StoreParts D
+all_raised start store = record { journal = store.journal; entries = raised_all (pos start) store.entries; room = store.room }
+
+-- the store of the tables is as it was; or each table is raised to the start that is told
+abbrev pub KeepsStore : {D : Type 0} → DeleteAnswer → StoreParts D → StoreParts D → Type 0
+KeepsStore answer before after = (after ≡ before) ⊎ ((start : ℕ) × (answer ≡ Done start) × (after ≡ all_raised start before))
+
 -- a shard that carried a state carries one that a delete leads to
 abbrev pub Deleted : {D W : Type 0} → (D → DiskView) → (W → Held) → ℕ → ℤ → PartParts D W → PartParts D W
     → DeleteAnswer → Type 0
@@ -104,11 +119,11 @@ pub record DeletesOnce {D W : Type 0} (seen : D → DiskView) (holding : W → H
   pub sound : answer ≡ Store Device → StarvesUnarmed seen before.log.journal.disk after.log.journal.disk
   -- at each moment since it began a crash leaves the log at entry, with or without its pending write, or with this mark
   pub any_moment : (old : PartShardState) → Carries seen holding before old → LeavesOnly seen before.log.journal.disk after.log.journal.disk
-      (λ c. IsLogOf old.log c ⊎ ((target : ℕ) × IsToDelete (log_at old.log) to target × IsLogOf (and_mark old.log target) c))
-  -- where there is nothing to delete, the log and its disk stay
-  pub unwritten : ((target : ℕ) → IsToDelete (log_in before.log) to target → ⊥) → after.log ≡ before.log
+      (IsFoundDeleting old.log to)
+  -- where there is nothing to delete, or no room for the mark, the log and its disk stay
+  pub unwritten : ((target : ℕ) → IsToDelete (log_in before.log) to target → HasRoomForMark before.log.journal.end → ⊥)
+      → after.log ≡ before.log
   -- the log's journal never ends before where it did
   pub ends : before.log.journal.end ≤ after.log.journal.end
-  -- the disks of the states stay
-  pub states : after.states.journal ≡ before.states.journal
+  pub states : KeepsStore answer before.states after.states
   pub conf : after.conf ≡ before.conf

@@ -167,6 +167,8 @@ pub record ProducesOnce {D W : Type 0} (seen : D → DiskView) (holding : W → 
   pub any_moment : (old : PartShardState) → Carries seen holding before old → LeavesOnly seen before.log.journal.disk after.log.journal.disk
       (λ c. IsLogOf old.log c
       ⊎ IsLogOf (record { batches = old.log.batches; start = old.log.start; pending = Some (Adds (at_end old.log.batches bytes)) }) c)
+  -- another refusal than the device's leaves the log and its disk
+  pub refused : (fault : LogFault) → result ≡ Err fault → fault ≢ log_store Device → after.log ≡ before.log
   -- its journal never ends before where it did
   pub ends : (old : PartShardState) → Carries seen holding before old → before.log.journal.end ≤ after.log.journal.end
   -- the states and their disks stay

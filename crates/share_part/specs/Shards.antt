@@ -1,8 +1,9 @@
 -- The shard of a hosted partition as a machine: its log, the tables of its groups, the writes that are pending, and its clock; and what a
 -- produced batch is answered and leaves of it (KIP-932; the pending writes are this project's own). The clock is the greatest moment that
 -- the shard was handed.
--- Worked example: a log has one batch from 0 to 2, `g` has no table, and a new group begins at 0. Then the new table of `g` has start 0 and no
--- rows. A batch that is produced at 5000 raises the clock from 0 to 5000, and one at 1000 leaves it there.
+-- Worked example: a log has one batch from 0 to 2, `g` has no table, and a new group begins at the log's start. Then the new table of `g` has
+-- start 0 and no rows; it would have start 2 if the log started there. A batch that is produced at 5000 raises the clock from 0 to 5000, and
+-- one at 1000 leaves it there.
 use Rattle.std.specs.Prelude.{◌≡◌, ◌-◌, ◌^◌, max, ℕ, pos, List, [], Option, Some, None, Result, Ok, Err, IfOk, nat_le, if◌then◌else◌}
 use Rattle.std.specs.Option.{IfSome, option_map}
 use Rattle.std.specs.BTreeMap.{insert_entry, is_at}

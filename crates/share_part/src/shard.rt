@@ -176,8 +176,9 @@ impl<D: Disk, W: Window> PartShard<D, W> {
     /// held.
     ///
     /// Memory is set aside first for the rows that acknowledgements and releases change, so that these take none. The
-    /// log is opened then, and then the states, as `PartLog` and `Coord` do; then the states are judged. States
-    /// that break the rules on a hosted partition are told of the first state disk and place 0.
+    /// log is opened then, and then the states, as `PartLog` and `Coord` do. Each table that starts below the log's
+    /// start is raised to it, in memory, and then the states are judged. States that break the rules on a hosted
+    /// partition are told of the first state disk and place 0.
     pub fn open(
         alloc: Global,
         disks: (D, D, D),
@@ -567,7 +568,7 @@ impl<D: Disk, W: Window> PartShard<D, W> {
     }
 
     /// Adds a batch as a producer sends it, as `PartLog::append` does, and answers its base and where the log starts.
-    /// The shard's clock is raised to `now`.
+    /// The shard's clock is raised to `now`, but after want of memory nothing has changed.
     pub fn produce(&mut self, now: u64, batch: &[u8]) -> Result<Placed, LogFault>
         requires { now ≤ 2 ^ 62 }
         ensures once { ProducesOnce D.seen W.held now batch.now self.old self.new result }
@@ -586,8 +587,10 @@ impl<D: Disk, W: Window> PartShard<D, W> {
     /// Deletes the records below an offset, where -1 stands for the log's end. The shard's clock is raised to `now`. It
     /// takes no memory.
     ///
-    /// Behind a store fault nothing is deleted. Otherwise each table that starts below the log's start starts there,
-    /// and nothing below it is held any more.
+    /// `OutOfRange` comes where the offset is below -1 or above the log's end. Where the log starts there or behind, its
+    /// start is answered and nothing is written. Otherwise the log starts there, and so does each table that started
+    /// below, and nothing below it is held any more. After a store fault log and tables are as before; after `Device` a
+    /// write is pending, this one or an older one, or none, and a crash may leave this one done.
     pub fn delete(&mut self, now: u64, to: i64) -> DeleteAnswer
         requires { now ≤ 2 ^ 62 }
         ensures once { DeletesOnce D.seen W.held now to self.old self.new result }
@@ -616,7 +619,7 @@ impl<D: Disk, W: Window> PartShard<D, W> {
         }
     }
 
-    /// The stored state of a group's table. `None` where the group has none.
+    /// The stored state of a group's table, raised to the log's start. `None` where the group has none.
     pub fn look_state(&self, group: &Name) -> Option<&StateView>
         ensures { state_found result ≡ share_state_at (states_of self.now.states.entries) (key_of self.now.conf group.now) }
     {

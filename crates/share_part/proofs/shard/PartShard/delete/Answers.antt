@@ -65,7 +65,7 @@ returns-in-Ok-clause-once g c = rw (← c.self.view_is) (deleted g.D.Disk.seen g
     (record { conf = c.self.inside.conf; log = c.self.inside.log; states = c.self.inside.states; windows = c.self.inside.windows.entries; clock = c.self.inside.clock }) c.max-self-inside.result c.max-self-inside.ensures
     c.raise.new.self c.in-Some.to _ c.in-Ok.ensures.once (ap (target_of (log_in c.self.inside.log)) (sym (to_z-of_z w64 c.args.to c.ranges.to)) ∙ sym c.in-Some.ensures.is)
     (let above = c.if-to-start.false in omega (arith, above, c.start-start.ensures.value)) c.in-Ok.ensures.steps
-    c.raise_tables.new.states c.raise_windows.new.windows.entries c.self.invariant.log_is c.raise_tables.ensures.entries c.raise_tables.ensures.journal c.raise_tables.ensures.holds
+    c.raise_tables.new.states c.raise_windows.new.windows.entries c.self.invariant.log_is c.raise_tables.ensures.entries c.raise_tables.ensures.journal c.raise_tables.ensures.room c.raise_tables.ensures.holds
     c.raise_windows.ensures c.in-Ok.field-0 refl)
 
 pub returns-in-Ok-clause-range : goal.returns-in-Ok-clause-range
