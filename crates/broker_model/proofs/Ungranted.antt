@@ -1,12 +1,17 @@
 -- No record is granted that lies below the log's start.
 use Rattle.std.proofs.Common.{◌≡◌, ◌≤◌, true, Some, inl, inr, ⊎_elim, sym, ap, subst, arith, ℕ, ℤ, List, [], ◌∷◌}
+use Rattle.edge_io.specs.Views.{DiskView}
+use Rattle.share_model.specs.ForeignRules.{size_of}
+use Rattle.share_model.specs.Held.{Held}
+use Rattle.share_model.specs.Logs.{Batch as LogBatch, end_of}
 use Rattle.share_model.specs.declared.delete.DeleteAnswer.{DeleteAnswer}
 use Rattle.share_model.specs.declared.delete.DeleteAnswer.TheVariants.{Done as Deleted, OutOfRange, Store as delete_store}
 use Rattle.share_model.specs.declared.fault.StoreFault.TheVariants.{Device, Full}
 use Rattle.part_log.specs.Shards.{LogShardState, StepsLog}
+use Rattle.part_log.proofs.Keeping.{keeps_start}
 use Rattle.part_log.proofs.Writes.{text_within}
 use Rattle.share_part.specs.Deleting.{Deletes as DeletesPart, DeletesBelow, DeletesNothing}
-use Rattle.share_part.specs.Shards.{PartShardState, base_in}
+use Rattle.share_part.specs.Shards.{Carries, PartParts, PartShardState, base_in}
 use Rattle.call_fold.specs.declared.part.Produced.{Produced}
 use Rattle.call_fold.specs.declared.part.Produced.TheVariants.{Base, Batch, Store}
 use Rattle.topic_conf.specs.Configs.{ConfigParts}
@@ -77,10 +82,23 @@ module _ (h : Hosted) (group : List ℕ) (o : ℕ) (member : List ℕ) (end : �
 own_of : (p : PartShardState) → IsAboveStart p → IsOwn p
 own_of p above = record { start = omega arith; within = above.0; tables = above.1 }
 
-pub ungranted : (h : Hosted) (first last : PartShardState) (steps : List PartStep) → IsPartHistory h first steps last → GrantsNothingDeleted h.conf first steps
+pub ungranted : (h : Hosted) (first last : PartShardState) (steps : List PartStep) → IsPartHistory h first steps last → IsAboveStart first
+    → GrantsNothingDeleted h.conf steps
 ungranted h first last steps run above s there group o member end g =
     granted_own h group o member end first last steps run (own_of first above) s
     (of_contains steps s there) g
+
+-- of each state for which a shard in memory stands
+pub carried_above : {D W : Type 0} (seen : D → DiskView) (holding : W → Held) (parts : PartParts D W) (s : PartShardState) → Carries seen holding parts s → IsAboveStart s
+carried_above seen holding parts s k = (
+  subst (λ (n : ℕ). n ≤ end_of s.log.batches) (sym k.log.start)
+      (subst (λ (bs : List LogBatch). parts.log.start ≤ end_of bs) (sym k.log.batches) (keeps_start seen parts.log s.log.pending k.log.keeps)),
+  λ key state found.
+      let is = (k.hosted key state found).start in
+      let at : size_of state.start ≡ is.0 = ap size_of is.1 in
+      let le : s.log.start ≤ is.0 = is.2 in
+      omega (arith, le, at),
+)
 
 -- behind an opening
 opens_above : (contents : List ℕ → List ℕ) (p : HostedPart) → OpensPart contents p → IsAboveStart p.shard

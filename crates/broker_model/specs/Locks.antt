@@ -106,9 +106,9 @@ StartAbove start states = (key : KeyParts) (state : ShareState) → share_state_
 abbrev pub IsAboveStart : PartShardState → Type 0
 IsAboveStart shard = (shard.log.start ≤ end_of shard.log.batches) × StartAbove shard.log.start shard.states
 
--- no record is granted that lies below the log's start, where each table started there or behind at first
-abbrev pub GrantsNothingDeleted : PartConfParts → PartShardState → List PartStep → Type 0
-GrantsNothingDeleted conf first steps = IsAboveStart first → (s : PartStep) → Contains steps s →
+-- no record is granted that lies below the log's start
+abbrev pub GrantsNothingDeleted : PartConfParts → List PartStep → Type 0
+GrantsNothingDeleted conf steps = (s : PartStep) → Contains steps s →
     (group : List ℕ) (offset : ℕ) (member : List ℕ) (end : ℕ) → Grants conf group offset member end s → s.before.log.start ≤ offset
 
 -- ---- of whole runs

@@ -19,6 +19,7 @@ use Rattle.shard_lock.specs.declared.shard.Entry.{Entry}
 use Rattle.broker_model.specs.Acting.{TakesStep}
 use Rattle.broker_core.proofs.Places.{differs, same_self}
 use Rattle.broker_model.specs.Hosted.{Hosted, first_of, log_of, same_name, second_of, state_store}
+use Rattle.broker_model.specs.Locks.{IsAboveStart}
 use Rattle.broker_model.specs.PartHistory.{IsPartHistory, StepsAlone}
 use Rattle.broker_model.specs.PartHistory.PartAct.{Called}
 use Rattle.broker_model.specs.Shards.{Counts, Ends, PartCall, faults_before, faults_behind}
@@ -150,11 +151,11 @@ module _ {D : Type 0} (seen : D → DiskView) where
     )
 
   pub is_history : (old new : Host D × PartShardState) (entries : List (Entry PartEvent PartAnswer)) → Leads (StepsPart seen) old entries new
-      → IsHistory seen old entries new
-  is_history old new entries leads = record {
+      → IsAboveStart old.1 → IsHistory seen old entries new
+  is_history old new entries leads above = record {
     leads = leads;
     exclusive = exclusive_alone (its [] old.0.part.conf) old.1 new.1 (steps_of seen old new entries leads)
         (part_history [] old.0.part.conf old new entries leads refl);
     deleted = ungranted (its [] old.0.part.conf) old.1 new.1 (steps_of seen old new entries leads)
-        (part_history [] old.0.part.conf old new entries leads refl);
+        (part_history [] old.0.part.conf old new entries leads refl) above;
   }

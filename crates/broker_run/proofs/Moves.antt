@@ -6,6 +6,7 @@ use Rattle.share_part.specs.Shards.{PartShardState, Carries}
 use Rattle.shard_lock.specs.History.{Leads}
 use Rattle.shard_lock.specs.Passes.{LockParts}
 use Rattle.shard_lock.specs.declared.shard.Entry.{Entry}
+use Rattle.broker_model.proofs.Ungranted.{carried_above}
 use Rattle.broker_core.specs.Hosts.{hosted_slot}
 use Rattle.broker_core.proofs.Opening.{carried_stands}
 use Rattle.broker_core.proofs.Reopens.{images_left}
@@ -84,11 +85,11 @@ module _ {D : Type 0} (seen : D → DiskView) where
         same = (k.topic, k.conf);
         leads = λ s c.
             let r = part_leads lock.first e.pass.seen last s e.leads c in
-            (r.0, is_history seen (lock.first, s) (last, r.0) e.pass.seen r.1, r.2);
+            (r.0, is_history seen (lock.first, s) (last, r.0) e.pass.seen r.1 (carried_above seen holding lock.first.part s c), r.2);
         stands = λ s c.
             let r = part_leads lock.first e.pass.seen last s e.leads c.carries in (
               r.0,
-              is_history seen (lock.first, s) (last, r.0) e.pass.seen r.1,
+              is_history seen (lock.first, s) (last, r.0) e.pass.seen r.1 (carried_above seen holding lock.first.part s c.carries),
               record {
                 stand = images_left seen lock.first.conf last.part r.0 (k.own ∙ c.conf_is) r.2;
                 log_told = k.log ∙ c.log.told;

@@ -88,4 +88,4 @@ pub record IsHistory {D : Type 0} (seen : D → DiskView) (old : Host D × PartS
     (new : Host D × PartShardState) : Type 0 where
   pub leads : Leads (StepsPart seen) old entries new
   pub exclusive : KeepsLocksExclusive old.0.part.conf (steps_of seen old new entries leads)
-  pub deleted : GrantsNothingDeleted old.0.part.conf old.1 (steps_of seen old new entries leads)
+  pub deleted : GrantsNothingDeleted old.0.part.conf (steps_of seen old new entries leads)
