@@ -47,7 +47,7 @@ use Rattle.share_part.specs.Following.{Acquires, Does as DoesThen, Follows, Fetc
 use Rattle.share_part.specs.Hosting.{PartConfParts, key_of}
 use Rattle.share_part.specs.Named.{named_from}
 use Rattle.share_part.specs.Settling.{Acts, IsHeldBy, IsSettled, act_row, held_after, is_closed_state, settled, stored_after}
-use Rattle.share_part.specs.Shards.{PartShardState, new_state, raised_to}
+use Rattle.share_part.specs.Shards.{PartShardState, new_state, with_clock_raised}
 use Rattle.share_part.specs.Tables.{delivery_of, one_more, table_of, unless_held, with_holds}
 use Rattle.share_part.specs.Walks.{acquired}
 use Rattle.share_part.specs.declared.limits.Limits.{Limits}
@@ -433,8 +433,8 @@ module _ (o : ℕ) (row : Row) (closed : is_closed_state row.state ≡ true) (gr
       still o row closed h.conf group x.log.batches is_log x y p.still.states p.still.pending p.still.held k
   part_keeps s now h x y (Looks asked looked) is_log p k = subst (λ (z : PartShardState). Keeps o row h.conf group x.log.batches z) (sym p.1) k
   part_keeps s now h x y (Expires answer) is_log p k =
-      groups_keep o row closed h.conf group x.log.batches is_log _ _ _ _ _ 0 (raised_to now x) y answer p.groups refl
-      (still o row closed h.conf group x.log.batches is_log x (raised_to now x) refl refl refl k)
+      groups_keep o row closed h.conf group x.log.batches is_log _ _ _ _ _ 0 (with_clock_raised now x) y answer p.groups refl
+      (still o row closed h.conf group x.log.batches is_log x (with_clock_raised now x) refl refl refl k)
   part_keeps s now h x y (Deletes to answer) is_log p k = delete_keeps h x y is_log _ _ to answer p.does k
 
   goes_keep : (n : ℕ) (s : Step) (x y : HostedPart) → Goes n s x y → IsLog x.shard.log.batches → KeepsPart x → KeepsPart y

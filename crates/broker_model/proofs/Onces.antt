@@ -41,7 +41,7 @@ use Rattle.share_part.specs.Following.{Acquires, Does, Fetches, FetchesFirst, Fo
 use Rattle.share_part.specs.Hosting.{PartConfParts, key_of}
 use Rattle.share_part.specs.Named.{named_from}
 use Rattle.share_part.specs.Settling.{Acts, IsLeastMissing, IsNextStart, IsSettled, stored_after}
-use Rattle.share_part.specs.Shards.{IsStill, PartShardState, StepsProduce, base_in, new_state, raised_to, with_held}
+use Rattle.share_part.specs.Shards.{IsStill, PartShardState, StepsProduce, base_in, new_state, with_clock_raised, with_held}
 use Rattle.share_part.specs.Tables.{Table, table_of, with_holds}
 use Rattle.share_part.specs.Visits.{StepsVisit}
 use Rattle.share_part.specs.Walks.{AreApart, AreRunsOf, FollowsGrant, acquired, offsets_with, written_out}
@@ -444,7 +444,7 @@ module _ (counts also : Counts) (ends there : Ends) (now : ℕ) (h : Hosted) (a 
       let r = subst (λ (g : List ℕ). StepsPart true counts ends now h a (Looks g looked) one) same p in
       ((λ i. Looks (same i) ((r.0 ∙ sym q.0) i)), r.1 ∙ sym q.1)
   part_once (Expires answer) (Expires told) same none nothing p q =
-      let r = groups_once h.conf _ _ _ _ _ _ _ _ _ 0 (raised_to now a) one other answer told none nothing p.groups q.groups in
+      let r = groups_once h.conf _ _ _ _ _ _ _ _ _ 0 (with_clock_raised now a) one other answer told none nothing p.groups q.groups in
       ((λ i. Expires (r.0 i)), r.1)
   part_once (Deletes to answer) (Deletes at told) same none nothing p q =
       let r = delete_once _ _ _ _ a one other now at answer told none nothing

@@ -30,7 +30,7 @@ use Rattle.share_part.specs.Deleting.{Deletes as DeletesPart, DeletesBelow, Dele
 use Rattle.share_part.specs.Hosting.{PartConfParts, key_of}
 use Rattle.share_part.specs.Named.{named_from}
 use Rattle.share_part.specs.Settling.{IsHeldBy, is_chosen, release_of, releases_if, releasing}
-use Rattle.share_part.specs.Shards.{PartShardState, new_state, raised_to}
+use Rattle.share_part.specs.Shards.{PartShardState, new_state, with_clock_raised}
 use Rattle.share_part.specs.Tables.{table_of, with_holds}
 use Rattle.share_part.specs.Walks.{acquired}
 use Rattle.share_part.specs.declared.limits.Limits.{Limits}
@@ -344,10 +344,10 @@ module _ (group : List ℕ) (o : ℕ) (member : List ℕ) (until : ℕ) where
   -- ---- a step
 
   module _ (h : Hosted) (s : PartStep) where
-    raised : (now : ℕ) → Locked s.before → Locked (raised_to now s.before)
+    raised : (now : ℕ) → Locked s.before → Locked (with_clock_raised now s.before)
     raised now l = record { hold = l.hold; at = l.at; whose = l.whose; ends = l.ends }
 
-    from_raised : (n now : ℕ) → IsFrom n s.before → IsFrom n (raised_to now s.before)
+    from_raised : (n now : ℕ) → IsFrom n s.before → IsFrom n (with_clock_raised now s.before)
     from_raised n now f = record { start = f.start; within = f.within; tables = f.tables }
 
     released_in : (visit : Visit) (answer : VisitAnswer) (unread : Bool) → s.act ≡ Called (Visits visit answer unread) → Locked s.before → FreesIt h.conf visit answer s.after
@@ -366,12 +366,12 @@ module _ (group : List ℕ) (o : ℕ) (member : List ℕ) (until : ℕ) where
     }
 
     expiry_lock : (now a later end last : ℕ) (groups : List (List ℕ)) (answer : ExpireAnswer) → s.act ≡ Called (Expires answer)
-        → s.after.clock ≡ max s.before.clock now → StepsGroups h.conf a later end last groups 0 (raised_to now s.before) answer s.after
+        → s.after.clock ≡ max s.before.clock now → StepsGroups h.conf a later end last groups 0 (with_clock_raised now s.before) answer s.after
         → Locked s.before → Locked s.after ⊎ Goes s
     expiry_lock now a later end last groups answer is clock p l = ⊎_elim
         (λ l. inl l)
         (λ f. inr (inr (inr (freed_in f))))
-        (groups_lock h.conf a later end last groups 0 (raised_to now s.before) s.after answer p (raised now l))
+        (groups_lock h.conf a later end last groups 0 (with_clock_raised now s.before) s.after answer p (raised now l))
       where
         freed_in : IsFreed (max s.before.clock now) s.after → IsExpiredIn group o until s
         freed_in f = record {
@@ -415,7 +415,7 @@ module _ (group : List ℕ) (o : ℕ) (member : List ℕ) (until : ℕ) where
     act_above n (Called (Produces batch produced)) p f = batch_above n _ _ s.before s.after batch produced p.4.log p.4.still.states f
     act_above n (Called (Looks other looked)) p f = subst (IsFrom n) (sym p.4.1) f
     act_above n (Called (Expires answer)) p f =
-        groups_above n h.conf _ _ _ _ _ 0 (raised_to p.3 s.before) answer s.after p.4.groups p.4.log (from_raised n p.3 f)
+        groups_above n h.conf _ _ _ _ _ 0 (with_clock_raised p.3 s.before) answer s.after p.4.groups p.4.log (from_raised n p.3 f)
     act_above n (Called (Deletes to answer)) p f = delete_above n _ _ s.before s.after to answer p.4.does f
     act_above n NothingDone p f = subst (IsFrom n) (sym p) f
 

@@ -49,7 +49,7 @@ use Rattle.share_part.specs.Hosting.{PartConfParts, key_of}
 use Rattle.share_part.specs.Leaving.{IsDoneOr}
 use Rattle.share_part.specs.Named.{named_from}
 use Rattle.share_part.specs.Settling.{Acts, AreHeldBy, IsHeldBy, IsSettled, act_row, is_chosen, is_closed, is_closed_state, release_of, releases_if, settled, stored_after}
-use Rattle.share_part.specs.Shards.{PartShardState, base_in, new_state, raised_to, with_new}
+use Rattle.share_part.specs.Shards.{PartShardState, base_in, new_state, with_clock_raised, with_new}
 use Rattle.share_part.specs.Tables.{Table, table_of}
 use Rattle.share_part.specs.declared.limits.Limits.{Limits}
 use Rattle.share_part.specs.declared.settle.Whose.TheVariants.{Member, Due}
@@ -583,9 +583,9 @@ module _ (r : Record) (s : Step) (Reason : Type 0) (cause : Closes r s ⊎ IsMad
       part_keeps now (Looks group looked) call p k = still r.offset Reason hosted.conf r.group x.shard y.shard
           (ap (λ (z : PartShardState). z.states) p.1) (ap (λ (z : PartShardState). z.pending) p.1) k
       part_keeps now (Expires answer) call p k =
-          groups_keep _ _ _ _ _ 0 (raised_to now x.shard) y.shard answer p.groups is_log slot
+          groups_keep _ _ _ _ _ 0 (with_clock_raised now x.shard) y.shard answer p.groups is_log slot
           (λ hold at due closed. closed_by (Expires answer) call hold ReleaseAct at (refl, subst (λ (c : ℕ). hold.end ≤ c) (sym p.clock) due) closed)
-          (still r.offset Reason hosted.conf r.group x.shard (raised_to now x.shard) refl refl k)
+          (still r.offset Reason hosted.conf r.group x.shard (with_clock_raised now x.shard) refl refl k)
       part_keeps now (Deletes to answer) call p k = delete_keeps _ _ to answer p.does k
 
     abbrev KeptIn : HostedPart → Type 0

@@ -26,7 +26,7 @@ use Rattle.share_coord.specs.States.{states_of}
 use Rattle.share_part.specs.Once.{ExpiresOnce, IsNothingDue}
 use Rattle.share_part.specs.Releasing.{ReleasesOnce, due_groups, has_due}
 use Rattle.share_part.specs.Settling.{held_after, is_chosen, releasing}
-use Rattle.share_part.specs.Shards.{Carries, PartParts, PartShardState, held_in, raised_to}
+use Rattle.share_part.specs.Shards.{Carries, PartParts, PartShardState, held_in, with_clock_raised}
 use Rattle.share_part.specs.Writes.{WritesActs, WritesGroups}
 use Rattle.share_part.specs.declared.release.Released.{Released}
 use Rattle.share_part.specs.declared.release.Released.TheVariants.{Done as released, Store as unreleased}
@@ -77,7 +77,7 @@ module _ {D W : Type 0} (seen : D → DiskView) (holding : W → Held) (now : �
     pub left : filter IsDue rest ≡ drop i due
     pub order : InOrder rest
     pub fresh : (g : List ℕ) → IsIn rest g → shard.held g ≡ held_in holding entry.windows g
-    pub to : StepsTo entry.conf (failed entry) (end entry) done 0 (raised_to now s) (failed current) (end current) freed (raised_to now shard)
+    pub to : StepsTo entry.conf (failed entry) (end entry) done 0 (with_clock_raised now s) (failed current) (end current) freed (with_clock_raised now shard)
     pub wrote : Wrote done entry.states current.states
 
   pub record SoFar (current : PartParts D W) (i freed : ℕ) : Type 0 where
@@ -142,8 +142,8 @@ module _ {D W : Type 0} (seen : D → DiskView) (holding : W → Held) (now : �
       group_held = f.fresh group (subst (λ (l : List (List ℕ)). IsIn l group) (sym next.is) (in_back next.passed (group ∷ next.behind) group (inl refl)))
 
       -- the groups up to this one are passed
-      to_here : StepsTo entry.conf (failed entry) (end entry) (f.done ++ next.passed) 0 (raised_to now s) (failed current) (end current) freed (raised_to now f.shard)
-      to_here = all_pass entry.conf (failed entry) (end entry) f.done 0 (raised_to now s) (failed current) (end current) freed (raised_to now f.shard) f.to h.few next.passed
+      to_here : StepsTo entry.conf (failed entry) (end entry) (f.done ++ next.passed) 0 (with_clock_raised now s) (failed current) (end current) freed (with_clock_raised now f.shard)
+      to_here = all_pass entry.conf (failed entry) (end entry) f.done 0 (with_clock_raised now s) (failed current) (end current) freed (with_clock_raised now f.shard) f.to h.few next.passed
           (λ g there.
           ap (λ (n : ℕ). due_count n (f.shard.held g)) f.clock_is
           ∙ ap (due_count clock) (f.fresh g (in_rest g there))
@@ -168,7 +168,7 @@ module _ {D W : Type 0} (seen : D → DiskView) (holding : W → Held) (now : �
 
       one_group : (fault : Option StoreFault) (t : PartShardState) → t.log ≡ f.shard.log → t.clock ≡ clock
           → StoresActs current.conf (FailuresRose seen current.states after.states) (end current) f.shard group (releasing (is_chosen (Due clock)) (f.shard.held group)) t fault
-          → StepsGroup entry.conf (failed current) (failed after) (end current) (raised_to now f.shard) group fault t
+          → StepsGroup entry.conf (failed current) (failed after) (end current) (with_clock_raised now f.shard) group fault t
       one_group fault t log clock_is stores = record {
         counts = later_both seen current.states after.states runs;
         log = log;
@@ -178,7 +178,7 @@ module _ {D W : Type 0} (seen : D → DiskView) (holding : W → Held) (now : �
             (subst (λ (c : PartConfParts). StoresActs c (FailuresRose seen current.states after.states) (end current) f.shard group (releasing (is_chosen (Due clock)) (f.shard.held group)) t fault) h.conf stores));
       }
 
-      raised_same : (t : PartShardState) → t.clock ≡ clock → t ≡ raised_to now t
+      raised_same : (t : PartShardState) → t.clock ≡ clock → t ≡ with_clock_raised now t
       raised_same t is =
           let same : t.clock ≡ max t.clock now = is ∙ (sym (max_again entry.clock now) ∙ ap (λ (n : ℕ). max n now) (sym is)) in
           λ j. record { log = t.log; states = t.states; pending = t.pending; held = t.held; clock = same j }
@@ -207,7 +207,7 @@ module _ {D W : Type 0} (seen : D → DiskView) (holding : W → Held) (now : �
               let counted : count ≡ due_count clock (f.shard.held group) = r.2.counts in
               let behind = order_behind n.passed group n.behind (subst InOrder n.is f.order) in
               let some : 0 < due_count clock (f.shard.held group) = subst (λ (l : Held). 0 < due_count clock l) (sym (group_held s f)) (some_due_of clock (held_in holding entry.windows group) n.pass) in
-              let to = one_more entry.conf (failed entry) (end entry) (f.done ++ n.passed) 0 (raised_to now s) (failed current) (end current) freed (raised_to now f.shard) (to_here s f)
+              let to = one_more entry.conf (failed entry) (end entry) (f.done ++ n.passed) 0 (with_clock_raised now s) (failed current) (end current) freed (with_clock_raised now f.shard) (to_here s f)
               group (failed after) (end after) r.0 (one_group s f None r.0 r.2.log r.2.clock_is r.2.stores)
               (λ none. ap (λ (p : StoreParts D). p.journal.end) (o.unwritten
               (subst (λ (l : Held). NameNone (ending clock l)) (f.carries.held group) (subst (λ (n : ℕ). NameNone (ending n (f.shard.held group))) f.clock_is none)))) in
@@ -225,8 +225,8 @@ module _ {D W : Type 0} (seen : D → DiskView) (holding : W → Held) (now : �
                 fresh = λ g there. held_same s f r.0 r.2.stores g (apart_from group n.behind g behind.1 there) ∙ f.fresh g (behind_rest s f g there);
                 wrote = wrote_one seen entry.conf entry.log.batches clock held_then (f.done ++ n.passed) group entry.states current.states after.states (wrote_here s f)
                     (wrote_next s f None o.records) (o.quiet (λ fault e. let clash : ⊥ = cc in clash));
-                to = subst (StepsTo entry.conf (failed entry) (end entry) ((f.done ++ n.passed) ++ group ∷ []) 0 (raised_to now s) (failed after) (end after) (more_freed freed count)) (raised_same s f r.0 r.2.clock_is)
-                    (subst (λ (m : ℕ). StepsTo entry.conf (failed entry) (end entry) ((f.done ++ n.passed) ++ group ∷ []) 0 (raised_to now s) (failed after) (end after) (more_freed freed m) r.0)
+                to = subst (StepsTo entry.conf (failed entry) (end entry) ((f.done ++ n.passed) ++ group ∷ []) 0 (with_clock_raised now s) (failed after) (end after) (more_freed freed count)) (raised_same s f r.0 r.2.clock_is)
+                    (subst (λ (m : ℕ). StepsTo entry.conf (failed entry) (end entry) ((f.done ++ n.passed) ++ group ∷ []) 0 (with_clock_raised now s) (failed after) (end after) (more_freed freed m) r.0)
                     (ap (λ (n : ℕ). due_count n (f.shard.held group)) f.clock_is ∙ sym counted) to);
               };
         }
@@ -256,14 +256,14 @@ module _ {D W : Type 0} (seen : D → DiskView) (holding : W → Held) (now : �
                 let f = h.steps s c in
                 let r = o.steps f.shard f.carries in
                 let n = next s f in
-                let steps = one_fails entry.conf (failed entry) (end entry) (f.done ++ n.passed) 0 (raised_to now s) (failed current) (end current) freed (raised_to now f.shard) (to_here s f)
+                let steps = one_fails entry.conf (failed entry) (end entry) (f.done ++ n.passed) 0 (with_clock_raised now s) (failed current) (end current) freed (with_clock_raised now f.shard) (to_here s f)
                 group n.behind (failed after) (end after) fault r.0 (one_group s f (Some fault) r.0 r.2.log r.2.clock_is r.2.stores) in (
                   r.0,
                   r.1,
                   record {
                     clock = r.2.clock_is ∙ ap (λ (n : ℕ). max n now) (sym c.clock);
                     log = r.2.log ∙ f.log;
-                    groups = subst (λ (l : List (List ℕ)). StepsGroups entry.conf (failed entry) (failed after) (end entry) (end after) l 0 (raised_to now s) (Store freed group fault) r.0)
+                    groups = subst (λ (l : List (List ℕ)). StepsGroups entry.conf (failed entry) (failed after) (end entry) (end after) l 0 (with_clock_raised now s) (Store freed group fault) r.0)
                         (sym (ap groups_of c.states ∙ parts_are s f)) steps;
                   },
                 );
@@ -296,12 +296,12 @@ module _ {D W : Type 0} (seen : D → DiskView) (holding : W → Held) (now : �
     all_ended = record {
       steps = λ s c.
           let f = h.steps s c in
-          let to = all_pass entry.conf (failed entry) (end entry) f.done 0 (raised_to now s) (failed current) (end current) freed (raised_to now f.shard) f.to h.few f.rest
+          let to = all_pass entry.conf (failed entry) (end entry) f.done 0 (with_clock_raised now s) (failed current) (end current) freed (with_clock_raised now f.shard) f.to h.few f.rest
           (λ g there.
           ap (λ (n : ℕ). due_count n (f.shard.held g)) f.clock_is
           ∙ ap (due_count clock) (f.fresh g there)
           ∙ none_due_of clock (held_in holding entry.windows g) (none_in IsDue f.rest (f.left ∙ drop_none due i past) g there)) in (
-            raised_to now f.shard,
+            with_clock_raised now f.shard,
             record {
               log = f.carries.log;
               pending = f.carries.pending;
@@ -318,9 +318,9 @@ module _ {D W : Type 0} (seen : D → DiskView) (holding : W → Held) (now : �
             record {
               clock = f.clock_is ∙ ap (λ (n : ℕ). max n now) (sym c.clock);
               log = f.log;
-              groups = subst (λ (l : List (List ℕ)). StepsGroups entry.conf (failed entry) (failed current) (end entry) (end current) l 0 (raised_to now s) (Done freed) (raised_to now f.shard))
+              groups = subst (λ (l : List (List ℕ)). StepsGroups entry.conf (failed entry) (failed current) (end entry) (end current) l 0 (with_clock_raised now s) (Done freed) (with_clock_raised now f.shard))
                   (sym (ap groups_of c.states ∙ f.parted))
-                  (all_done entry.conf (failed entry) (end entry) (f.done ++ f.rest) 0 (raised_to now s) (failed current) (end current) freed (raised_to now f.shard) to (failed current) (omega arith));
+                  (all_done entry.conf (failed entry) (end entry) (f.done ++ f.rest) 0 (with_clock_raised now s) (failed current) (end current) freed (with_clock_raised now f.shard) to (failed current) (omega arith));
             },
           );
       memory = tt;

@@ -20,7 +20,7 @@ use Rattle.share_part.specs.Failures.{AreQuiet}
 use Rattle.share_part.specs.Hosting.{PartConfParts}
 use Rattle.share_part.specs.Releasing.{has_due}
 use Rattle.share_part.specs.Settling.{Acts, is_chosen}
-use Rattle.share_part.specs.Shards.{IsStill, PartShardState, raised_to}
+use Rattle.share_part.specs.Shards.{IsStill, PartShardState, with_clock_raised}
 use Rattle.share_part.specs.Writes.{WritesActs, WritesGroups}
 use Rattle.share_part.specs.declared.settle.Whose.TheVariants.{Due}
 use Rattle.share_part.proofs.Failing.{quiet_same}
@@ -35,10 +35,10 @@ max_again a b = omega arith
 -- ---- acts do not see the clock
 
 module _ (conf : PartConfParts) (rose : Type 0) (end : ℕ) (old new : PartShardState) (group : List ℕ) (acts : Acts) (now : ℕ) where
-  still_as : IsStill old new → IsStill (raised_to now old) new
+  still_as : IsStill old new → IsStill (with_clock_raised now old) new
   still_as h = record { states = h.states; pending = h.pending; held = h.held }
 
-  pub stores_as : (fault : Option StoreFault) → StoresActs conf rose end old group acts new fault → StoresActs conf rose end (raised_to now old) group acts new fault
+  pub stores_as : (fault : Option StoreFault) → StoresActs conf rose end old group acts new fault → StoresActs conf rose end (with_clock_raised now old) group acts new fault
   stores_as None (inl h) = inl (h.0, still_as h.1)
   stores_as None (inr h) = inr (h.0, record { states = record { state = h.1.states.state; next = h.1.states.next; known = h.1.states.known; settled = h.1.states.settled; is = h.1.states.is }; nothing = h.1.nothing; held = h.1.held })
   stores_as (Some Device) h = (

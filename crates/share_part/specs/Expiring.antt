@@ -17,7 +17,7 @@ use Rattle.share_model.specs.declared.visit.ExpireAnswer.TheVariants.{Done, Stor
 use Rattle.share_part.specs.Acknowledging.{NameNone, StoresActs}
 use Rattle.share_part.specs.Hosting.{PartConfParts}
 use Rattle.share_part.specs.Settling.{Acts, is_chosen, releasing}
-use Rattle.share_part.specs.Shards.{PartShardState, raised_to}
+use Rattle.share_part.specs.Shards.{PartShardState, with_clock_raised}
 use Rattle.share_part.specs.declared.settle.Whose.TheVariants.{Due}
 
 -- the releases of all that is held by a lock that has ended by the clock
@@ -62,4 +62,4 @@ pub record StepsExpire (conf : PartConfParts) (count later end last : ℕ) (old 
     (new : PartShardState) : Type 0 where
   pub clock : new.clock ≡ max old.clock now
   pub log : new.log ≡ old.log
-  pub groups : StepsGroups conf count later end last (groups_of old.states) 0 (raised_to now old) answer new
+  pub groups : StepsGroups conf count later end last (groups_of old.states) 0 (with_clock_raised now old) answer new

@@ -79,8 +79,8 @@ pub record IsStill (old new : PartShardState) : Type 0 where
   pub held : new.held ≡ old.held
 
 -- the clock is raised to a moment, and nothing else changes
-abbrev pub raised_to : ℕ → PartShardState → PartShardState
-raised_to now old = record { log = old.log; states = old.states; pending = old.pending; held = old.held; clock = max old.clock now }
+abbrev pub with_clock_raised : ℕ → PartShardState → PartShardState
+with_clock_raised now old = record { log = old.log; states = old.states; pending = old.pending; held = old.held; clock = max old.clock now }
 
 -- ---- a produced batch
 
