@@ -19,8 +19,6 @@ mod slots;
 mod spawner;
 mod streams;
 mod system;
-#[cfg(test)]
-mod tests;
 
 pub use bay::FolderBay;
 pub use clock::SystemClock;
