@@ -5,12 +5,11 @@
 mod foreign;
 mod law;
 mod members;
-mod moment;
 mod part;
 mod told;
 
 pub use foreign::{ForeignEvent, ForeignHost};
 pub use law::{a_partition_tells_what_is_asked, each_history_ends_in_an_act};
 pub use members::{MembersAsk, MembersEvent, MembersHost, MembersTold};
-pub use moment::Moment;
 pub use part::{PartAsk, PartEvent, PartHost, PartTold, PartWindow};
+pub use share_model::Moment;

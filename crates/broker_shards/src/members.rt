@@ -1,11 +1,10 @@
 // The members of all groups behind a lock.
 ghost use Rattle.broker_shards.specs.Acts.{ActsOnMembers};
 
-use crate::moment::Moment;
 use msgs_group::{HeartbeatReply, HeartbeatRequest};
 use shard_lock::Shard;
 use share_members::GroupShard;
-use share_model::NoMemory;
+use share_model::{Moment, NoMemory};
 
 /// What is asked of the members of all groups.
 #[derive(Drop)]

@@ -4,12 +4,11 @@ ghost use Rattle.broker_shards.specs.Acts.{ActsOnPart, GoesOnPart};
 ghost use Rattle.broker_shards.specs.Crashes.{FoundWithin};
 ghost use Rattle.broker_shards.specs.Hosts.{holding};
 
-use crate::moment::Moment;
 use crate::told::{looked, produced};
 use call_fold::{Looked, Produced};
 use edge_io::Disk;
 use shard_lock::Shard;
-use share_model::{Blob, DeleteAnswer, ExpireAnswer, Name, NoMemory, Visit, VisitAnswer};
+use share_model::{Blob, DeleteAnswer, ExpireAnswer, Moment, Name, NoMemory, Visit, VisitAnswer};
 use share_part::{PartConf, PartShard};
 use std::alloc::Global;
 use std::marker::Model;

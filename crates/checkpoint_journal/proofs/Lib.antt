@@ -1,7 +1,6 @@
--- Marks: generations and seals of lists of marks, and which journal is live. OneWay: two contents are read in one way. Spares: a journal that
--- isn't live, while it is cleared and written. Knowing: what frames say of a journal. Writing: a checkpoint, frame by frame.
+-- Marks: generations and seals of lists of marks, and which journal is live. OneWay: two contents are read in one way.
+-- Knowing: what frames say of a journal. Writing: a checkpoint, frame by frame.
 pub mod Knowing
 pub mod Marks
 pub mod OneWay
-pub mod Spares
 pub mod Writing

@@ -8,12 +8,13 @@ use Rattle.edge_io.proofs.Runs.{runs_none, runs_then}
 use Rattle.gate_journal.specs.Frames.{IsBeforeOrAfter, StandsFor}
 use Rattle.gate_journal.specs.Journals.{IsAtRest, Stands}
 use Rattle.gate_journal.specs.declared.writer.Writer.{Writer}
+use Rattle.gate_journal.specs.Spares.{HasFrames, IsSpare}
+use Rattle.gate_journal.proofs.Spares.{either_way, spare_as, spare_either, spare_rest}
 use Rattle.checkpoint_journal.specs.Checkpoints.{AreSnapshots, IsNext, IsUnfinished}
 use Rattle.checkpoint_journal.specs.Generations.{IsBeaten, checkpoint_of, head_frame, seal_frame}
 use Rattle.checkpoint_journal.specs.Making.{IsMaking}
-use Rattle.checkpoint_journal.specs.Spares.{HasFrames, IsBeside, IsIdle, IsSpare}
+use Rattle.checkpoint_journal.specs.Spares.{IsBeside, IsIdle}
 use Rattle.checkpoint_journal.proofs.Marks.{begun, snapshots_push}
-use Rattle.checkpoint_journal.proofs.Spares.{either_way, spare_as, spare_either, spare_rest}
 
 -- ---- frames that are not finished
 

@@ -4,7 +4,8 @@ ghost use Rattle.std.specs.declared.option.Option.{Option};
 ghost use Rattle.edge_io.specs.Armed.{RunsOn, StarvesUnarmed};
 ghost use Rattle.edge_io.specs.Causes.{HasCause};
 ghost use Rattle.edge_io.specs.Moments.{LeavesOnly};
-ghost use Rattle.checkpoint_journal.specs.Spares.{HasFrames, IsBeside, IsIdle};
+ghost use Rattle.gate_journal.specs.Spares.{HasFrames};
+ghost use Rattle.checkpoint_journal.specs.Spares.{IsBeside, IsIdle};
 
 use edge_io::{Disk, Failed};
 use gate_journal::Journal;

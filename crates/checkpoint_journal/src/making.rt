@@ -5,10 +5,11 @@ ghost use Rattle.edge_io.specs.Armed.{RunsOn};
 ghost use Rattle.edge_io.specs.Moments.{LeavesOnly};
 ghost use Rattle.gate_journal.specs.Frames.{IsBeforeOrAfter, IsFrame, frame_in};
 ghost use Rattle.gate_journal.specs.Journals.{IsAtRest, Stands};
+ghost use Rattle.gate_journal.specs.Spares.{HasFrames, IsSpare};
 ghost use Rattle.checkpoint_journal.specs.Checkpoints.{AreSnapshots, IsUnfinished};
 ghost use Rattle.checkpoint_journal.specs.Generations.{checkpoint_of, head_frame, seal_frame};
 ghost use Rattle.checkpoint_journal.specs.Making.{IsMaking, IsUnmade};
-ghost use Rattle.checkpoint_journal.specs.Spares.{HasFrames, IsBeside, IsIdle, IsSpare};
+ghost use Rattle.checkpoint_journal.specs.Spares.{IsBeside, IsIdle};
 
 use crate::head::{head_buffer, seal_buffer};
 use crate::snapshots::Snapshots;

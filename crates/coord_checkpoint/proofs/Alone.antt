@@ -11,8 +11,9 @@ use Rattle.gate_journal.specs.Journals.{IsQuiet}
 use Rattle.gate_journal.specs.declared.writer.Writer.{Writer}
 use Rattle.share_model.specs.declared.fault.StoreFault.{StoreFault}
 use Rattle.share_model.specs.declared.fault.StoreFault.TheVariants.{Device}
+use Rattle.gate_journal.specs.Spares.{HasFrames}
 use Rattle.checkpoint_journal.specs.Generations.{IsBeaten, IsPlain, IsWhole, head_frame, mark_of, seal_frame}
-use Rattle.checkpoint_journal.specs.Spares.{HasFrames, IsAside}
+use Rattle.checkpoint_journal.specs.Spares.{IsAside}
 use Rattle.coord_checkpoint.specs.Stores.{AreSides, Finds, Keeps, MaySeal, StoreParts, idle_side, live_side}
 use Rattle.coord_checkpoint.specs.Steps.{HasCheckpoint, IsNextTurn, IsPreparing, IsReady, IsSameTurn, IsTried, StaysReady, placed}
 use Rattle.coord_checkpoint.specs.Writes.{IsLeftTrying, StaysOn, Tries, side}

@@ -5,8 +5,8 @@ use Rattle.edge_io.specs.Views.{DiskView}
 use Rattle.gate_journal.specs.Clearing.{IsAsBefore}
 use Rattle.gate_journal.specs.Journals.{Stands}
 use Rattle.gate_journal.specs.declared.writer.Writer.{Writer}
+use Rattle.gate_journal.proofs.Spares.{spare_touched}
 use Rattle.checkpoint_journal.specs.Spares.{IsAside, IsIdle}
-use Rattle.checkpoint_journal.proofs.Spares.{spare_touched}
 use Rattle.coord_checkpoint.specs.Stores.{AreSides, Keeps, arranged}
 use Rattle.coord_checkpoint.specs.declared.step.Turn.{Turn}
 use Rattle.coord_checkpoint.proofs.Sides.{keeps_by, keeps_sides}

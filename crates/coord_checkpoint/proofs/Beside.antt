@@ -10,8 +10,9 @@ use Rattle.gate_journal.specs.Journals.{IsQuiet, Stands}
 use Rattle.gate_journal.specs.declared.writer.Writer.{Writer}
 use Rattle.share_model.specs.declared.fault.StoreFault.{StoreFault}
 use Rattle.share_model.specs.declared.fault.StoreFault.TheVariants.{Device, Full}
+use Rattle.gate_journal.specs.Spares.{HasFrames}
 use Rattle.checkpoint_journal.specs.Generations.{IsBeaten, IsPlain, IsWhole, mark_of}
-use Rattle.checkpoint_journal.specs.Spares.{HasFrames, IsAside}
+use Rattle.checkpoint_journal.specs.Spares.{IsAside}
 use Rattle.checkpoint_journal.proofs.Marks.{one_more}
 use Rattle.coord_checkpoint.specs.Disks.{HasFailed}
 use Rattle.coord_checkpoint.specs.Stores.{AreSides, IsLeftWithin, Keeps, MaySeal, StoreParts}

@@ -12,9 +12,10 @@ use Rattle.gate_journal.specs.Journals.{Adds as AddsFrame, IsQuiet, Stands}
 use Rattle.gate_journal.specs.declared.writer.Writer.{Writer}
 use Rattle.share_model.specs.declared.fault.StoreFault.{StoreFault}
 use Rattle.share_model.specs.declared.fault.StoreFault.TheVariants.{Device, Full}
+use Rattle.gate_journal.specs.Spares.{HasFrames}
 use Rattle.checkpoint_journal.specs.Checkpoints.{IsCheckpoint}
 use Rattle.checkpoint_journal.specs.Generations.{IsBeaten, IsPlain, IsWhole, head_frame, mark_of, seal_frame}
-use Rattle.checkpoint_journal.specs.Spares.{HasFrames, IsAside}
+use Rattle.checkpoint_journal.specs.Spares.{IsAside}
 use Rattle.checkpoint_journal.proofs.Marks.{made, one_more}
 use Rattle.coord_checkpoint.specs.Disks.{HasFailed}
 use Rattle.coord_checkpoint.specs.Stores.{AreSides, IsDue, IsLeftWithin, Keeps, StoreParts}

@@ -10,11 +10,11 @@ use Rattle.gate_journal.specs.Journals.{IsAtRest, Stands}
 use Rattle.gate_journal.specs.Visits.{OpensEach, placed}
 use Rattle.gate_journal.specs.declared.writer.Writer.{Writer}
 use Rattle.gate_journal.proofs.Once.{once}
+use Rattle.gate_journal.proofs.Spares.{spare_rest}
 use Rattle.checkpoint_journal.specs.Generations.{IsBeaten, IsListed, IsLiveOn, IsUnlisted, IsUnsealed, IsWhole, live_of}
 use Rattle.checkpoint_journal.specs.Spares.{IsIdle}
 use Rattle.checkpoint_journal.specs.Standings.{StandsSo}
 use Rattle.checkpoint_journal.specs.declared.stands.Standing.{Standing}
-use Rattle.checkpoint_journal.proofs.Spares.{spare_rest}
 use Rattle.coord_checkpoint.specs.Disks.{IsReopened}
 use Rattle.coord_checkpoint.specs.Openings.{IsRead, frames_in}
 use Rattle.coord_checkpoint.specs.Stores.{Keeps, StoreParts, arranged}

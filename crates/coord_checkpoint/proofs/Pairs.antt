@@ -3,8 +3,8 @@ use Rattle.std.proofs.Common.{◌≡◌, ◌⊎◌, inl, inr, refl, sym, subst, 
 use Rattle.edge_io.specs.Views.{DiskView}
 use Rattle.gate_journal.specs.Frames.{IsWithPending}
 use Rattle.gate_journal.specs.declared.writer.Writer.{Writer}
+use Rattle.gate_journal.specs.Spares.{HasFrames}
 use Rattle.checkpoint_journal.specs.Generations.{IsBeaten, IsPlain, IsWhole, KeepBoth, mark_of}
-use Rattle.checkpoint_journal.specs.Spares.{HasFrames}
 use Rattle.checkpoint_journal.proofs.Marks.{kept, one_more, overtaken}
 use Rattle.coord_checkpoint.specs.Stores.{AreSides, Finds, IsLeft}
 

@@ -6,10 +6,10 @@ use Rattle.edge_io.specs.Views.{DiskView}
 use Rattle.edge_io.proofs.Moments.{paired}
 use Rattle.gate_journal.specs.Journals.{Stands}
 use Rattle.gate_journal.specs.declared.writer.Writer.{Writer}
+use Rattle.gate_journal.proofs.Spares.{spare_by, with_pending}
 use Rattle.checkpoint_journal.specs.Generations.{IsBeaten, IsPlain, IsWhole, mark_of}
 use Rattle.checkpoint_journal.specs.Spares.{IsAside, IsIdle}
 use Rattle.checkpoint_journal.proofs.Marks.{one_more}
-use Rattle.checkpoint_journal.proofs.Spares.{spare_by, with_pending}
 use Rattle.coord_checkpoint.specs.Stores.{AreSides, Finds, Keeps, live_side}
 use Rattle.coord_checkpoint.specs.Steps.{IsReady, placed}
 use Rattle.coord_checkpoint.specs.declared.step.Turn.{Turn}

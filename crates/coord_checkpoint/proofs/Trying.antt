@@ -6,10 +6,11 @@ use Rattle.edge_io.specs.Views.{DiskView}
 use Rattle.edge_io.proofs.Moments.{joined, started, weakened}
 use Rattle.gate_journal.specs.Journals.{IsAtRest}
 use Rattle.gate_journal.specs.declared.writer.Writer.{Writer}
+use Rattle.gate_journal.specs.Spares.{HasFrames}
 use Rattle.checkpoint_journal.specs.Checkpoints.{AreSnapshots}
 use Rattle.checkpoint_journal.specs.Generations.{IsBeaten, checkpoint_of}
 use Rattle.checkpoint_journal.specs.Making.{IsMaking}
-use Rattle.checkpoint_journal.specs.Spares.{HasFrames, IsAside, IsBeside, IsIdle}
+use Rattle.checkpoint_journal.specs.Spares.{IsAside, IsBeside, IsIdle}
 use Rattle.coord_checkpoint.specs.Steps.{HasCheckpoint, IsPreparing, IsReady, IsSameTurn, IsTried, StaysReady}
 use Rattle.coord_checkpoint.specs.declared.step.Turn.{Turn}
 use Rattle.coord_checkpoint.proofs.Made.{tried_whole}

@@ -15,6 +15,13 @@ use share_model::StoreFault;
 use std::alloc::Global;
 use std::marker::Model;
 
+/// The count of faults of each disk of a store.
+#[derive(Clone, Copy)]
+pub struct FaultCounts {
+    pub first: u64,
+    pub second: u64,
+}
+
 /// A list of frames on the two disks of a store, which grows by one frame at a time and survives a crash at any moment.
 ///
 /// One disk is *live*: the frames stand in its journal. Once there are many more of them than keys, a checkpoint is
@@ -157,6 +164,17 @@ impl<D: Disk> StateJournal<D> {
         ensures { (result ≡ true) ↔ (((D.seen self.now.first.disk).starved ≡ true) ⊎ ((D.seen self.now.second.disk).starved ≡ true)) }
     {
         self.first.starved() || self.second.starved()
+    }
+
+    /// The count of faults of each of its disks.
+    pub fn faults(&self) -> FaultCounts
+        ensures first { result.first ≡ (D.seen self.now.first.disk).faults }
+        ensures second { result.second ≡ (D.seen self.now.second.disk).faults }
+    {
+        FaultCounts {
+            first: self.first.faults(),
+            second: self.second.faults(),
+        }
     }
 
     /// Arms a fault of one of its disks, and changes nothing else; it has no log.

@@ -9,7 +9,7 @@ mod visit;
 
 pub use checkpoint_journal::Snapshots;
 pub use fault::CoordOpen;
-pub use journal::StateJournal;
+pub use journal::{FaultCounts, StateJournal};
 pub use opening::open;
 pub use step::Appended;
 pub use visit::StateVisit;

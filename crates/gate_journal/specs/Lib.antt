@@ -3,3 +3,4 @@ pub mod Journals
 pub mod Clearing
 pub mod Reading
 pub mod Visits
+pub mod Spares

@@ -1,4 +1,4 @@
-ghost use Rattle.std.specs.Prelude.{◌≡◌, ◌≢◌, ◌⊎◌, ◌+◌, ◌≤◌, [], List, ℕ, length, Some, Err, IfOk, OnOk, OnErr};
+ghost use Rattle.std.specs.Prelude.{◌≡◌, ◌≢◌, ◌⊎◌, ◌↔◌, ◌+◌, ◌≤◌, [], List, ℕ, length, Some, None, Err, IsTrue, IfOk, OnOk, OnErr};
 ghost use Rattle.std.specs.declared.option.Option.{Option};
 ghost use Rattle.edge_io.specs.Armed.{ArmsAlone, RunsOn, StarvesUnarmed};
 ghost use Rattle.edge_io.specs.Causes.{HasCause};
@@ -229,6 +229,22 @@ impl<D: Disk> Journal<D> {
         ensures { result ≡ (D.seen self.now.disk).starved }
     {
         self.writer.disk.starved()
+    }
+
+    /// The count of faults of its disk.
+    pub fn faults(&self) -> u64
+        ensures { result ≡ (D.seen self.now.disk).faults }
+    {
+        self.writer.disk.faults()
+    }
+
+    /// Whether nothing is left to mend. Then no write is pending.
+    pub fn is_at_rest(&self) -> bool
+        ensures exact { IsTrue result ↔ (self.now.mending ≡ Mending.Nothing) }
+        ensures rests { IsTrue result → (frames : List (List ℕ)) (pending : Option (List ℕ)) → Stands D.seen self.now frames pending →
+            (pending ≡ None) × IsAtRest D.seen self.now frames }
+    {
+        matches!(self.writer.mending, Mending::Nothing)
     }
 
     /// Arms a fault of its disk, and changes nothing else.

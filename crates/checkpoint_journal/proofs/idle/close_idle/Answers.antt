@@ -1,7 +1,7 @@
 use Rattle.edge_io.proofs.Moments.{weakened}
 use Rattle.gate_journal.proofs.Changes.{on_err_both}
+use Rattle.gate_journal.proofs.Spares.{spare_touched, touched}
 use Rattle.checkpoint_journal.specs.Spares.{IsIdle}
-use Rattle.checkpoint_journal.proofs.Spares.{spare_touched, touched}
 use Rattle.checkpoint_journal.proofs.idle.close_idle.Goals as goal
 
 pub returns-clause-kept : goal.returns-clause-kept

@@ -1,6 +1,6 @@
 use Rattle.edge_io.proofs.Moments.{weakened}
+use Rattle.gate_journal.proofs.Spares.{clearing, spare_partly}
 use Rattle.checkpoint_journal.specs.Spares.{IsIdle}
-use Rattle.checkpoint_journal.proofs.Spares.{clearing, spare_partly}
 use Rattle.checkpoint_journal.proofs.making.erase.Goals as goal
 
 pub returns-in-Ok-clause-any_moment : goal.returns-in-Ok-clause-any_moment

@@ -2,10 +2,11 @@ use Rattle.std.proofs.Common.{◌∷◌, arith}
 use Rattle.edge_io.proofs.Moments.{joined, weakened}
 use Rattle.edge_io.proofs.Runs.{runs_then}
 use Rattle.gate_journal.specs.Frames.{IsBeforeOrAfter}
+use Rattle.gate_journal.specs.Spares.{HasFrames}
 use Rattle.checkpoint_journal.specs.Checkpoints.{IsUnfinished}
 use Rattle.checkpoint_journal.specs.Generations.{head_frame, seal_frame}
 use Rattle.checkpoint_journal.specs.Making.{IsMaking}
-use Rattle.checkpoint_journal.specs.Spares.{HasFrames, IsIdle}
+use Rattle.checkpoint_journal.specs.Spares.{IsIdle}
 use Rattle.checkpoint_journal.proofs.Writing.{idle_making, seal_fails, sealed_making, unfinished_making, unsealed_beside}
 use Rattle.checkpoint_journal.proofs.making.write_checkpoint.Goals as goal
 

@@ -1,8 +1,8 @@
 use Rattle.std.proofs.Common.{arith}
 use Rattle.edge_io.proofs.Moments.{joined}
 use Rattle.edge_io.proofs.Runs.{runs_then}
+use Rattle.gate_journal.specs.Spares.{HasFrames}
 use Rattle.checkpoint_journal.specs.Checkpoints.{IsUnfinished}
-use Rattle.checkpoint_journal.specs.Spares.{HasFrames}
 use Rattle.checkpoint_journal.proofs.making.write_unsealed.Goals as goal
 
 pub returns-in-Ok-clause-any_moment : goal.returns-in-Ok-clause-any_moment

@@ -11,7 +11,7 @@ use Rattle.gate_journal.specs.declared.writer.Mending.TheVariants.{Nothing, Behi
 use Rattle.gate_journal.proofs.Repairs.{none as no_blocks}
 use Rattle.gate_journal.proofs.Shaped.{at_mending}
 use Rattle.gate_journal.proofs.Shapes.{ajar_stands, gate_stands, rest_stands, shut_stands}
-use Rattle.checkpoint_journal.specs.Spares.{HasFrames, IsLoose, IsSpare}
+use Rattle.gate_journal.specs.Spares.{HasFrames, IsLoose, IsSpare}
 
 module _ (P : List (List ℕ) → Type 0) where
   -- with one more or without
