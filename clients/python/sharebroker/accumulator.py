@@ -8,7 +8,7 @@ from concurrent.futures import Future
 from dataclasses import dataclass
 from typing import Deque, Dict, List, Optional, Sequence, Tuple
 
-from .batches import BATCH_OVERHEAD, MAX_BATCH_BYTES, BatchBuilder, Header
+from .batches import BATCH_OVERHEAD, MAX_BATCH_BYTES, BatchBuilder, Header, size_alone
 from .errors import RecordTooLarge
 
 
@@ -101,7 +101,7 @@ class Accumulator:
             batch = Batch(topic, partition)
             future = self._put(batch, timestamp_ms, key, value, headers, MAX_BATCH_BYTES)
             if future is None:
-                raise RecordTooLarge(f"with the record a batch has more than {MAX_BATCH_BYTES} bytes")
+                raise RecordTooLarge(size_alone(timestamp_ms, key, value, headers), MAX_BATCH_BYTES)
             self.bytes_waiting += BATCH_OVERHEAD
             queue.append(batch)
         return future

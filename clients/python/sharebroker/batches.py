@@ -58,6 +58,13 @@ def _record(offset_delta: int, timestamp_delta: int, key: Optional[bytes], value
     return record.done()
 
 
+def size_alone(timestamp_ms: int, key: Optional[bytes], value: Optional[bytes], headers: Sequence[Header]) -> int:
+    """How many bytes a batch has with this record alone."""
+    builder = BatchBuilder()
+    builder.add(timestamp_ms, key, value, headers, 1 << 62)
+    return builder.size
+
+
 class BatchBuilder:
     """A batch that records are added to. It isn't compressed, and has no producer id."""
 

@@ -4,9 +4,10 @@ from __future__ import annotations
 
 import itertools
 import socket
+import ssl
 import struct
 import time
-from typing import Any, List, Sequence, Tuple
+from typing import Any, List, Optional, Sequence, Tuple
 
 from .errors import ConnectionLost, MalformedReply, NotSent, Refused, Unreachable, UnsupportedBroker
 from .fields import Reader, Writer, skip_tags
@@ -31,11 +32,13 @@ def parse_addresses(text: str) -> List[Address]:
 
     A text that has another form is a `ValueError`.
     """
+    if not isinstance(text, str):
+        raise TypeError(f"bootstrap_servers is a text, HOST:PORT, and not {type(text).__name__}")
     addresses = []
     for word in text.split(","):
         host, _, port = word.strip().rpartition(":")
         if not host or not port.isdecimal() or not 1 <= int(port) <= 65535:
-            raise ValueError(f"{word.strip()!r} isn't HOST:PORT")
+            raise ValueError(f"bootstrap_servers: {word.strip()!r} isn't HOST:PORT")
         addresses.append((host.strip("[]"), int(port)))
     return addresses
 
@@ -76,16 +79,22 @@ class Connection:
     It is used by one thread at a time, but for `close`.
     """
 
-    def __init__(self, address: Address, client_id: str, timeout_ms: int) -> None:
-        """Connects. `timeout_ms` bounds the wait for the connection and for each reply. Else: `Unreachable`."""
+    def __init__(self, address: Address, client_id: str, timeout_ms: int,
+                 ssl_context: Optional[ssl.SSLContext] = None) -> None:
+        """Connects, and encrypts where a context says how. `timeout_ms` bounds the wait for the connection and for each
+        reply. Else: `Unreachable`."""
         self.address = address
         self.is_open = True
+        #: When the last reply or the connection came (`time.monotonic`).
+        self.used_at = time.monotonic()
         self._client_id = client_id
         self._timeout_ms = timeout_ms
         self._numbers = itertools.count(1)
         try:
             self._socket = socket.create_connection(address, timeout_ms / 1000)
             self._socket.setsockopt(socket.IPPROTO_TCP, socket.TCP_NODELAY, 1)
+            if ssl_context is not None:
+                self._socket = _encrypted(self._socket, ssl_context, address[0])
         except OSError as fault:
             self.is_open = False
             raise Unreachable(f"no connection to {address[0]}:{address[1]}: {fault}") from fault
@@ -100,7 +109,9 @@ class Connection:
             deadline = time.monotonic() + (self._timeout_ms + extra_ms) / 1000
             self._send(frame_of(call, request, number, self._client_id), deadline)
             size = _SIZE.unpack(self._receive(4, deadline))[0]
-            return reply_in(call, self._receive(size, deadline), number)
+            content = self._receive(size, deadline)
+            self.used_at = time.monotonic()
+            return reply_in(call, content, number)
         except BaseException:
             self.close()
             raise
@@ -111,6 +122,7 @@ class Connection:
             number = next(self._numbers) & 0x7FFFFFFF
             deadline = time.monotonic() + self._timeout_ms / 1000
             self._send(frame_of(call, request, number, self._client_id), deadline)
+            self.used_at = time.monotonic()
         except BaseException:
             self.close()
             raise
@@ -124,12 +136,23 @@ class Connection:
             pass
         self._socket.close()
 
+    def has_ended(self) -> bool:
+        """Whether it ended between a reply and the next request, as the broker ends what was silent for long. It is
+        closed then."""
+        try:
+            if self.is_open and self._has_news():
+                self.close()
+        except OSError:
+            self.close()
+        return not self.is_open
+
     def _has_news(self) -> bool:
-        """Whether the connection has ended, or bytes have come, between a reply and the next request."""
+        """Whether the connection has ended, or bytes have come, between a reply and the next request. It is of no use
+        then."""
         self._socket.setblocking(False)
         try:
-            self._socket.recv(1, socket.MSG_PEEK)
-        except BlockingIOError:
+            self._socket.recv(1, 0 if isinstance(self._socket, ssl.SSLSocket) else socket.MSG_PEEK)
+        except (BlockingIOError, ssl.SSLWantReadError):
             return False
         return True
 
@@ -163,6 +186,15 @@ class Connection:
         except OSError as fault:
             raise ConnectionLost(f"the connection ended before a reply: {fault}") from fault
         return b"".join(pieces)
+
+
+def _encrypted(plain: socket.socket, context: ssl.SSLContext, host: str) -> socket.socket:
+    """The connection with TLS around it. The time of the connecting bounds the handshake, too."""
+    try:
+        return context.wrap_socket(plain, server_hostname=host)
+    except BaseException:
+        plain.close()
+        raise
 
 
 def check_versions(connection: Connection, calls: Sequence[Call[Any, Any]] = NEEDED) -> None:

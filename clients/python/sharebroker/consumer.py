@@ -2,16 +2,21 @@
 
 from __future__ import annotations
 
+import math
+import ssl
+import threading
 import time
 import uuid
+from contextlib import contextmanager
 from dataclasses import dataclass
-from typing import Callable, Dict, List, Optional, Sequence, Set, Tuple
+from typing import Callable, Dict, Iterator, List, Optional, Sequence, Set, Tuple
 
 from .batches import read_batches
-from .errors import (INVALID_RECORD_STATE, KAFKA_STORAGE_ERROR, Closed, ConnectionLost, MalformedReply, NotSent,
-                     Refused, Unacknowledged, Unreachable, WrongMode)
-from .hand import Hand, Part, Sent
-from .link import LOG, Link, Pause, check_timeout
+from .checks import MOST_MS, check_flag, check_ms, check_text, check_whole
+from .errors import (INVALID_RECORD_STATE, KAFKA_STORAGE_ERROR, Closed, ConcurrentUse, ConnectionLost, MalformedReply,
+                     NotSent, NotSubscribed, Refused, Unacknowledged, UnknownTopic, Unreachable, WrongMode)
+from .hand import Hand, Lock, Part, Sent
+from .link import LOG, Link, Pause
 from .membership import Membership
 from .records import Acknowledgement, AcknowledgeType, ConsumerRecord, Outcome
 from .session import ShareSession
@@ -36,6 +41,9 @@ class ConsumerSettings:
     share_acknowledgement_mode: str = "implicit"
     #: How many records a poll gives at most.
     max_poll_records: int = 500
+    #: Where `poll` isn't called for so long, in ms, the consumer leaves its group until it is, and the broker releases
+    #: what it holds.
+    max_poll_interval_ms: float = 300000
     #: How many bytes of batches a poll fetches at most, but for its first batch. The broker sends at most 16777216.
     fetch_max_bytes: int = 16777216
     #: How long a fetch waits at the broker where it has no record, in ms. Where fetches don't wait there, `poll`
@@ -54,27 +62,31 @@ class ConsumerSettings:
     #: The pause before a lost connection is made again, in ms: at first, and at most.
     reconnect_backoff_ms: int = 50
     reconnect_backoff_max_ms: int = 1000
+    #: What connections are encrypted with, where they are.
+    ssl_context: Optional[ssl.SSLContext] = None
     #: A name that is sent along. The broker doesn't use it.
     client_id: str = "sharebroker-python"
 
     def check(self) -> None:
-        """Settings that make no sense are a `ValueError`."""
+        """Settings that make no sense are a `ValueError` or a `TypeError`. The link checks those that it uses."""
         if self.share_acknowledgement_mode not in ("implicit", "explicit"):
             raise ValueError("share_acknowledgement_mode is 'implicit' or 'explicit'")
-        if not 1 <= self.max_poll_records <= 2147483647:
-            raise ValueError("max_poll_records is at least 1")
-        if not 1 <= self.fetch_max_bytes <= 2147483647:
-            raise ValueError("fetch_max_bytes is at least 1")
-        if not 0 <= self.fetch_max_wait_ms <= 2147483647:
-            raise ValueError("fetch_max_wait_ms is 0 to 2147483647")
-        check_timeout(self.request_timeout_ms)
+        check_whole("max_poll_records", self.max_poll_records, 1, MOST_MS)
+        check_ms("max_poll_interval_ms", self.max_poll_interval_ms, 1)
+        check_whole("fetch_max_bytes", self.fetch_max_bytes, 1, 2147483647)
+        check_whole("fetch_max_wait_ms", self.fetch_max_wait_ms, 0, MOST_MS)
+        check_flag("check_crcs", self.check_crcs)
+        for name in ("fetch_backoff_ms", "fetch_backoff_max_ms", "retry_backoff_ms", "retry_backoff_max_ms",
+                     "reconnect_backoff_ms", "reconnect_backoff_max_ms"):
+            check_ms(name, getattr(self, name))
 
 
 class ShareConsumer:
     """Works a queue: each record of its topics is given to one consumer of the group at a time.
 
-    It is used by one thread. It takes two connections, and so two workers of the broker: one for records, and one
-    on which a thread of its own lets the broker hear of it.
+    It is used by one thread at a time; a call while another thread is in one is a `ConcurrentUse`. It takes two
+    connections, and so two workers of the broker: one for records, and one on which a thread of its own lets the broker
+    hear of it.
 
         with ShareConsumer("localhost:9092", "resizers") as consumer:
             consumer.subscribe(["jobs"])
@@ -84,7 +96,8 @@ class ShareConsumer:
 
     What `poll` gives is locked for the broker's lock duration (`acquisition_lock_timeout_ms`). A record whose lock
     ended before its acknowledgement came, or whose connection ended, is delivered again, maybe to another consumer:
-    each record is delivered at least once.
+    each record is delivered at least once. Where `poll` isn't called for `max_poll_interval_ms` the consumer leaves its
+    group and gives up its connections, so that others go on; the next `poll` joins again.
     """
 
     def __init__(self, bootstrap_servers: str, group_id: str, **settings: object) -> None:
@@ -95,15 +108,15 @@ class ShareConsumer:
         """
         self.settings = ConsumerSettings(**settings)  # type: ignore[arg-type]
         self.settings.check()
-        if not 1 <= len(group_id.encode()) <= 255:
-            raise ValueError("group_id has 1 to 255 bytes")
+        check_text("group_id", group_id, 1, 255)
         self.group_id = group_id
         #: The name of the member, which is new for each consumer.
         self.member_id = str(uuid.uuid4())
         #: How long a record stays locked, in ms; None before the first fetch.
         self.acquisition_lock_timeout_ms: Optional[int] = None
         self._link = self._new_link(bootstrap_servers)
-        self._member = Membership(self._new_link(bootstrap_servers), group_id, self.member_id)
+        self._member = Membership(self._new_link(bootstrap_servers), group_id, self.member_id,
+                                  self.settings.max_poll_interval_ms, self._link.let_go)
         self._session: Optional[ShareSession] = None
         self._hand = Hand()
         self._topics: Set[str] = set()
@@ -111,10 +124,13 @@ class ShareConsumer:
         self._ended: List[Acknowledgement] = []
         self._empty_pause = Pause(self.settings.fetch_backoff_ms, self.settings.fetch_backoff_max_ms)
         self._closed = False
+        self._user = threading.RLock()
+        self._calls = 0
 
     def _new_link(self, bootstrap_servers: str) -> Link:
         return Link(bootstrap_servers, self.settings.client_id, self.settings.request_timeout_ms,
-                    self.settings.reconnect_backoff_ms, self.settings.reconnect_backoff_max_ms)
+                    self.settings.reconnect_backoff_ms, self.settings.reconnect_backoff_max_ms,
+                    self.settings.ssl_context)
 
     def __enter__(self) -> ShareConsumer:
         return self
@@ -125,16 +141,39 @@ class ShareConsumer:
     # What a consumer does
 
     def subscribe(self, topics: Sequence[str]) -> None:
-        """Wants these topics, in place of those before. Names that the broker doesn't know are passed over."""
-        self._check_open()
-        if isinstance(topics, str):
-            raise TypeError("topics is a list of names")
-        self._topics = set(topics)
-        self._member.subscribe(list(topics))
+        """Wants these topics, in place of those before. Names that the broker doesn't know are passed over, with a
+        warning in the log."""
+        with self._call():
+            self._check_open()
+            if isinstance(topics, (str, bytes)) or not all(isinstance(name, str) for name in topics):
+                raise TypeError("topics is a list of names")
+            self._topics = set(topics)
+            self._member.subscribe(list(topics))
 
     def subscription(self) -> Set[str]:
         """The topics that are wanted."""
         return set(self._topics)
+
+    def partitions_for(self, topic: str, timeout_ms: float = 30000) -> int:
+        """How many partitions a topic has. `UnknownTopic`; `Unreachable` where the broker wasn't reached in time."""
+        check_text("topic", topic, 0, 32767)
+        check_ms("timeout_ms", timeout_ms)
+        with self._call():
+            self._check_open()
+            self._link.connect(time.monotonic() + timeout_ms / 1000)
+            known = self._link.topics.by_name if self._link.topics else {}
+            if topic not in known:
+                raise UnknownTopic(f"the broker has no topic {topic!r}")
+            return known[topic].partitions
+
+    def assignment(self, timeout_ms: float = 0) -> Set[Tuple[str, int]]:
+        """The topics and partitions that the broker has this consumer read. There are none until it has told them,
+        which is waited for at most `timeout_ms`. `Refused` as with `poll`."""
+        check_ms("timeout_ms", timeout_ms)
+        with self._call():
+            self._check_open()
+            parts = self._member.assigned(time.monotonic() + timeout_ms / 1000)
+            return {(self._member.name_of(topic_id), number) for topic_id, number in parts}
 
     def poll(self, timeout_ms: float = 1000, max_records: Optional[int] = None) -> List[ConsumerRecord]:
         """Gives records, in order for each partition, and waits for them at most `timeout_ms`; then there are none.
@@ -149,43 +188,71 @@ class ShareConsumer:
         A broker that can't be reached is tried again, with a warning in the log now and then, and no records come.
         `Refused`: the broker takes no such member (code 81: the group is full), and so at each later `poll`; another
         consumer may be taken. `UnsupportedBroker`: likewise. `MalformedReply`: what was fetched isn't in hand, and the
-        broker releases it. `Closed`.
+        broker releases it. `NotSubscribed`: no topic is wanted. `Closed`.
         """
-        self._check_open()
+        check_ms("timeout_ms", timeout_ms)
+        if max_records is not None:
+            check_whole("max_records", max_records, 1, 2147483647)
         most = self.settings.max_poll_records if max_records is None else max_records
-        if most < 1:
-            raise ValueError("max_records is at least 1")
-        deadline = time.monotonic() + timeout_ms / 1000
-        if self.settings.share_acknowledgement_mode == "implicit":
-            self._hand.accept_all()
-        elif self._hand.unacknowledged():
-            raise Unacknowledged(f"{self._hand.unacknowledged()} records of the last poll aren't acknowledged")
-        while True:
-            records = self._fetch(most, deadline)
-            if records or time.monotonic() >= deadline:
-                return records
+        with self._call(is_poll=True):
+            self._check_open()
+            if not self._topics:
+                raise NotSubscribed("subscribe names topics first")
+            deadline = time.monotonic() + timeout_ms / 1000
+            if self.settings.share_acknowledgement_mode == "implicit":
+                self._hand.accept_all()
+            elif self._hand.unacknowledged():
+                raise Unacknowledged(f"{self._hand.unacknowledged()} records of the last poll aren't acknowledged")
+            self._member.poll_begins()
+            while True:
+                records = self._fetch(most, deadline)
+                if records or time.monotonic() >= deadline:
+                    return records
 
-    def acknowledge(self, record: ConsumerRecord, type: AcknowledgeType = AcknowledgeType.ACCEPT) -> None:
+    def acknowledge(self, record: ConsumerRecord, type: AcknowledgeType = AcknowledgeType.ACCEPT,
+                    delay_ms: float = 0) -> None:
         """Chooses what becomes of a record of the last poll. It is sent by the next `poll` or `commit`, or by `close`.
 
-        `NotInHand`: it isn't one, or was sent before. `WrongMode`: in implicit mode. Then nothing has changed.
+        A release may have a delay: until then the record stays locked, so nobody gets it, and the first `poll` or
+        `commit` after it releases it; at the latest shortly before its lock ends. The delay is at most
+        `acquisition_lock_timeout_ms`. Meanwhile further polls give other records. `close` releases it at once. Until
+        it is sent something else may be chosen.
+
+        `NotInHand`: it isn't such a record, or was sent before. `WrongMode`: in implicit mode. Then nothing has changed.
         """
-        self._check_open()
-        if self.settings.share_acknowledgement_mode == "implicit":
-            raise WrongMode("in implicit mode poll and commit acknowledge the records")
-        self._hand.acknowledge(record, AcknowledgeType(type))
+        with self._call():
+            self._check_open()
+            if self.settings.share_acknowledgement_mode == "implicit":
+                raise WrongMode("in implicit mode poll and commit acknowledge the records")
+            if not isinstance(record, ConsumerRecord):
+                raise TypeError(f"record is a ConsumerRecord, and not {record.__class__.__name__}")
+            if type not in tuple(AcknowledgeType):
+                raise ValueError(f"type is an AcknowledgeType, and not {type!r}")
+            self._check_delay(AcknowledgeType(type), delay_ms)
+            due = time.monotonic() + delay_ms / 1000 if delay_ms else 0.0
+            self._hand.acknowledge(record, AcknowledgeType(type), due)
+
+    def _check_delay(self, type_: AcknowledgeType, delay_ms: float) -> None:
+        check_ms("delay_ms", delay_ms)
+        if delay_ms and type_ is not AcknowledgeType.RELEASE:
+            raise ValueError("delay_ms is for a RELEASE")
+        lock_ms = self.acquisition_lock_timeout_ms
+        if lock_ms is not None and delay_ms > lock_ms:
+            raise ValueError(f"delay_ms is at most the time of a lock, {lock_ms}, and not {delay_ms}")
 
     def commit(self, timeout_ms: float = 30000) -> List[Acknowledgement]:
-        """Sends the acknowledgements of the last poll, and tells what became of each. In implicit mode all are
-        accepted.
+        """Sends the acknowledgements of the last poll, and the releases whose delay is over, and tells what became of
+        each. In implicit mode all are accepted.
 
         With code 56 they are sent again, at most `timeout_ms` long; then they are told as refused. Each is told once.
         """
-        self._check_open()
-        if self.settings.share_acknowledgement_mode == "implicit":
-            self._hand.accept_all()
-        self._commit(time.monotonic() + timeout_ms / 1000)
-        return self._report(is_returned=True)
+        check_ms("timeout_ms", timeout_ms)
+        with self._call():
+            self._check_open()
+            if self.settings.share_acknowledgement_mode == "implicit":
+                self._hand.accept_all()
+            self._commit(time.monotonic(), time.monotonic() + timeout_ms / 1000)
+            return self._report(is_returned=True)
 
     def set_acknowledgement_commit_callback(self, callback: Optional[Callback]) -> None:
         """Has this called with what became of acknowledgements, by `poll`, `commit` and `close`, in the thread that
@@ -199,40 +266,59 @@ class ShareConsumer:
         It accepts nothing by itself, also in implicit mode: `commit` before it, where the work is done. A second
         call does nothing.
         """
-        if self._closed:
-            return
-        self._closed = True
-        try:
-            self._commit(time.monotonic() + timeout_ms / 1000)
-            self._report()
-            if self._session is not None and self._session.is_open:
-                self._session.close()
-        except (NotSent, ConnectionLost, MalformedReply) as fault:
-            LOG.warning("%s; the broker releases what was held", fault)
-        finally:
-            self._link.close()
-            self._member.leave()
+        check_ms("timeout_ms", timeout_ms)
+        with self._call():
+            if self._closed:
+                return
+            self._closed = True
+            try:
+                self._commit(math.inf, time.monotonic() + timeout_ms / 1000)
+                self._report()
+                if self._session is not None and self._session.is_open:
+                    self._session.close()
+            except (NotSent, ConnectionLost, MalformedReply) as fault:
+                LOG.warning("%s; the broker releases what was held", fault)
+            finally:
+                self._link.close()
+                self._member.leave()
 
     def _check_open(self) -> None:
         if self._closed:
             raise Closed("the consumer was closed")
 
+    @contextmanager
+    def _call(self, is_poll: bool = False) -> Iterator[None]:
+        """A call by one thread, also from the callback within another call. While it goes on the member stays."""
+        if not self._user.acquire(blocking=False):
+            raise ConcurrentUse("another thread is in a call of this consumer")
+        self._calls += 1
+        try:
+            if self._calls == 1:
+                self._member.call_begins()
+            yield
+        finally:
+            self._calls -= 1
+            if self._calls == 0:
+                self._member.call_ends(is_poll)
+            self._user.release()
+
     # Fetching
 
     def _fetch(self, max_records: int, deadline: float) -> List[ConsumerRecord]:
         """Does one fetch, where there is something to fetch, and else waits."""
-        wanted = self._member.assigned(deadline)
+        wanted = self._member.assigned(self._until(deadline))
         if not wanted:
-            self._commit(deadline)
+            self._commit(time.monotonic(), deadline)
             self._report()
-            self._member.wait_for_change(wanted, deadline)
+            self._member.wait_for_change(wanted, self._until(deadline))
             return []
         session = self._connected(deadline)
         if session is None:
             return []
-        sent = self._take()
         began = time.monotonic()
-        wait_ms = min(self.settings.fetch_max_wait_ms, max(0, int((deadline - began) * 1000)))
+        sent = self._take(began)
+        until = self._until(deadline)
+        wait_ms = min(self.settings.fetch_max_wait_ms, max(0, int((until - began) * 1000)))
         try:
             reply = session.fetch(wanted, sent.batches(), wait_ms, self.settings.fetch_max_bytes, max_records)
         except (NotSent, Refused, ConnectionLost, MalformedReply) as fault:
@@ -244,12 +330,17 @@ class ShareConsumer:
         self._settle(session, sent, {(topic.topic_id, entry.partition_index): entry.acknowledge_error_code
                                      for topic in reply.responses for entry in topic.partitions}, deadline)
         self._report()
-        records = self._take_in(reply)
+        records = self._take_in(reply, Lock(began, reply.acquisition_lock_timeout_ms / 1000))
         if records:
             self._empty_pause.reset()
         elif not sent:
-            self._pause_where_none_was_made(began, wait_ms, deadline)
+            self._pause_where_none_was_made(began, wait_ms, until)
         return records
+
+    def _until(self, deadline: float) -> float:
+        """The deadline, or when a release that waits is to be sent, where that is before."""
+        due = self._hand.next_due(time.monotonic())
+        return deadline if due is None else min(deadline, due)
 
     def _pause_where_none_was_made(self, began: float, wait_ms: int, deadline: float) -> None:
         """Pauses after a fetch that had no record, where it didn't wait at the broker."""
@@ -268,7 +359,7 @@ class ShareConsumer:
             self._session = ShareSession(connection, self.group_id, self.member_id)
         return self._session
 
-    def _take_in(self, reply: ShareFetchResponse) -> List[ConsumerRecord]:
+    def _take_in(self, reply: ShareFetchResponse, lock: Lock) -> List[ConsumerRecord]:
         """Takes what was acquired in hand. Nothing of it is in hand where it can't be read: the broker releases it."""
         held: List[Tuple[Part, ConsumerRecord]] = []
         gaps: Dict[Part, List[int]] = {}
@@ -283,7 +374,9 @@ class ShareConsumer:
         except MalformedReply as fault:
             self._failed(Sent({}), fault)
             raise
-        self._hand = Hand(held, gaps)
+        hand = Hand(held, gaps, lock)
+        self._ended += hand.keep(self._hand)
+        self._hand = hand
         return [record for _, record in held]
 
     def _name_of(self, topic_id: uuid.UUID) -> str:
@@ -306,23 +399,25 @@ class ShareConsumer:
 
     # Acknowledging
 
-    def _commit(self, deadline: float) -> None:
+    def _commit(self, moment: float, deadline: float) -> None:
+        """Sends what is to be sent by this moment."""
         session = self._session
-        if session is None or not session.is_open:
+        if session is None or not session.is_open or session.connection.has_ended():
             self._hand.is_lost = True
-        sent = self._take()
+        sent = self._take(moment)
         if session is not None and sent:
             codes = self._codes(session, sent)
             if codes is not None:
                 self._settle(session, sent, codes, deadline)
 
-    def _take(self) -> Sent:
-        """Takes the acknowledgements that can be sent. Those of records that a lost connection held have ended."""
-        sent = self._hand.take()
-        if not self._hand.is_lost:
-            return sent
-        self._ended += sent.all_ended(Outcome.LOST)
-        return Sent({})
+    def _take(self, moment: float) -> Sent:
+        """Takes the acknowledgements that are to be sent by this moment and can be. The others have ended: those of
+        records that a lost connection held, and releases that waited for longer than their locks."""
+        if self._hand.is_lost:
+            self._ended += self._hand.take(math.inf).all_ended(Outcome.LOST)
+            return Sent({})
+        self._ended += self._hand.take_late(time.monotonic())
+        return self._hand.take(moment)
 
     def _codes(self, session: ShareSession, sent: Sent) -> Optional[Dict[Part, int]]:
         """Sends acknowledgements alone, and gives the code of each partition; None where the connection ended."""

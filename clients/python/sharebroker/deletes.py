@@ -2,13 +2,15 @@
 
 from __future__ import annotations
 
+import ssl
 import time
 from dataclasses import dataclass
 from typing import Dict, List, Mapping, Optional, Tuple
 
+from .checks import MOST_MS, check_text, check_whole
 from .connection import check_versions
 from .errors import ConnectionLost, MalformedReply, NotSent, Refused, UnknownTopic, Unreachable
-from .link import Link, check_timeout
+from .link import Link
 from .messages import (DELETE_RECORDS, DeletedPartition, DeletePartition, DeleteRecordsRequest, DeleteRecordsResponse,
                        DeleteTopic)
 
@@ -28,7 +30,7 @@ class DeletedRecords:
 
 
 def delete_records(bootstrap_servers: str, before_offsets: Mapping[Tuple[str, int], int],
-                   timeout_ms: int = 30000) -> List[DeletedRecords]:
+                   timeout_ms: int = 30000, ssl_context: Optional[ssl.SSLContext] = None) -> List[DeletedRecords]:
     """Deletes the records below an offset of each of these partitions, given as `{(TOPIC, PARTITION): OFFSET}`, or all
     by the offset `LOG_END`; and gives what became of each, in the same order.
 
@@ -43,11 +45,14 @@ def delete_records(bootstrap_servers: str, before_offsets: Mapping[Tuple[str, in
     `ConnectionLost`, `MalformedReply`: on each partition it is done or not. It may be asked again, as what is deleted
     stays so; but by `LOG_END` that deletes what has come since, too.
     """
-    check_timeout(timeout_ms)
+    check_whole("timeout_ms", timeout_ms, 1, MOST_MS)
     for place, offset in before_offsets.items():
-        if not -1 << 63 <= offset < 1 << 63:
-            raise ValueError(f"the offset {offset} of {place[0]}/{place[1]} isn't a number of 64 bits")
-    link = Link(bootstrap_servers, "sharebroker-python", timeout_ms, 50, 1000)
+        if not isinstance(place, tuple) or len(place) != 2:
+            raise TypeError("before_offsets has pairs of a topic and a partition, each with an offset")
+        check_text("the topic in before_offsets", place[0], 0, 32767)
+        check_whole("the partition in before_offsets", place[1], -1 << 31, (1 << 31) - 1)
+        check_whole("the offset in before_offsets", offset, -1 << 63, (1 << 63) - 1)
+    link = Link(bootstrap_servers, "sharebroker-python", timeout_ms, 50, 1000, ssl_context)
     try:
         connection = link.connect(time.monotonic() + timeout_ms / 1000)
         _check_places(link, before_offsets)

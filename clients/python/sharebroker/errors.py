@@ -92,7 +92,11 @@ class UnknownTopic(ShareBrokerError):
 
 
 class RecordTooLarge(ShareBrokerError):
-    """A record alone would make a batch longer than the broker takes."""
+    """A record alone would make a batch longer than the broker takes. `most` is how many bytes that are."""
+
+    def __init__(self, size: int, most: int) -> None:
+        self.most = most
+        super().__init__(f"the record is too large: alone in a batch it makes {size} bytes, and the broker takes {most}")
 
 
 class BufferFull(ShareBrokerError):
@@ -124,6 +128,14 @@ class NotInHand(ShareBrokerError):
 
 class WrongMode(ShareBrokerError):
     """`acknowledge` was called in implicit mode."""
+
+
+class NotSubscribed(ShareBrokerError):
+    """`poll` was called before `subscribe` named a topic."""
+
+
+class ConcurrentUse(ShareBrokerError):
+    """A consumer was called while another thread was in a call of it. One thread at a time may use it."""
 
 
 class Closed(ShareBrokerError):

@@ -4,12 +4,14 @@ from __future__ import annotations
 
 import logging
 import random
+import ssl
 import threading
 import time
 from dataclasses import dataclass
 from typing import Dict, List, Optional
 from uuid import UUID
 
+from .checks import MOST_MS, check_ssl_context, check_text, check_whole
 from .connection import Address, Connection, ask_metadata, check_versions, parse_addresses
 from .errors import Closed, ConnectionLost, MalformedReply, NotSent, Unreachable
 from .messages import MetadataResponse
@@ -18,12 +20,6 @@ LOG = logging.getLogger("sharebroker")
 
 #: A connection that fails again and again is a warning only so often, in seconds.
 WARN_AGAIN_S = 10.0
-
-
-def check_timeout(request_timeout_ms: int) -> None:
-    """A time that no request can be given is a `ValueError`: it is sent along as a number of 32 bits."""
-    if not isinstance(request_timeout_ms, int) or not 1 <= request_timeout_ms <= 2147483647:
-        raise ValueError("request_timeout_ms is a whole number, 1 to 2147483647")
 
 
 class Pause:
@@ -67,18 +63,24 @@ class Topics:
 class Link:
     """A connection to the broker, at the address that Metadata tells.
 
-    One thread uses it at a time, but for `close`. `topics` are those that the broker had when it was connected to last.
+    One thread uses it at a time, but for `close` and `let_go`. `topics` are those that the broker had when it was
+    connected to last. A connection that the broker ended while nobody used it is made again without a pause or a
+    warning; and so is one that was silent for `max_idle_ms`, before the broker ends it, where that is given.
     """
 
-    def __init__(self, bootstrap_servers: str, client_id: str, request_timeout_ms: int, reconnect_backoff_ms: int,
-                 reconnect_backoff_max_ms: int) -> None:
+    def __init__(self, bootstrap_servers: str, client_id: str, request_timeout_ms: int, reconnect_backoff_ms: float,
+                 reconnect_backoff_max_ms: float, ssl_context: Optional[ssl.SSLContext] = None,
+                 max_idle_ms: Optional[float] = None) -> None:
         self.topics: Optional[Topics] = None
         self._bootstrap: List[Address] = parse_addresses(bootstrap_servers)
-        if len(client_id.encode()) > 32767:
-            raise ValueError("client_id has at most 32767 bytes")
+        check_text("client_id", client_id, 0, 32767)
+        check_whole("request_timeout_ms", request_timeout_ms, 1, MOST_MS)
+        check_ssl_context(ssl_context)
         self._client_id = client_id
         self._timeout_ms = request_timeout_ms
         self._pause = Pause(reconnect_backoff_ms, reconnect_backoff_max_ms)
+        self._ssl_context = ssl_context
+        self._max_idle_ms = max_idle_ms
         self._not_before = 0.0
         self._warned_at = -WARN_AGAIN_S
         self._connection: Optional[Connection] = None
@@ -87,7 +89,7 @@ class Link:
     def current(self) -> Optional[Connection]:
         """The connection, where it is open."""
         connection = self._connection
-        return connection if connection is not None and connection.is_open else None
+        return None if connection is None or connection.has_ended() else connection
 
     def connect(self, deadline: float) -> Connection:
         """The connection, which is made where it isn't open, again and again until `deadline` (of `time.monotonic`).
@@ -100,7 +102,7 @@ class Link:
             if self._closed.is_set():
                 raise Closed("it was closed")
             open_one = self.current()
-            if open_one is not None:
+            if open_one is not None and self._is_fresh(open_one):
                 return open_one
             wait = self._not_before - time.monotonic()
             if wait > 0 and self._not_before > deadline:
@@ -126,6 +128,19 @@ class Link:
         except (NotSent, ConnectionLost, MalformedReply) as fault:
             self.lost(fault)
             raise Unreachable(str(fault)) from fault
+
+    def _is_fresh(self, connection: Connection) -> bool:
+        """Whether the connection was used lately. One that wasn't is closed."""
+        if self._max_idle_ms is None or time.monotonic() - connection.used_at < self._max_idle_ms / 1000:
+            return True
+        connection.close()
+        return False
+
+    def let_go(self) -> None:
+        """Closes the connection, where there is one. It is made again when it is needed. Any thread may call it."""
+        connection = self._connection
+        if connection is not None:
+            connection.close()
 
     def lost(self, fault: Exception) -> None:
         """Says that the connection failed: it is closed, and the next one is made after a pause."""
@@ -173,7 +188,7 @@ class Link:
 
     def _open(self, address: Address) -> Connection:
         """A connection, which `close` ends from now on."""
-        connection = Connection(address, self._client_id, self._timeout_ms)
+        connection = Connection(address, self._client_id, self._timeout_ms, self._ssl_context)
         self._connection = connection
         if self._closed.is_set():
             connection.close()

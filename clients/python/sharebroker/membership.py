@@ -4,7 +4,8 @@ from __future__ import annotations
 
 import threading
 import time
-from typing import List, Optional, Sequence
+from typing import Callable, List, Optional, Sequence
+from uuid import UUID
 
 from .errors import (FENCED_MEMBER_EPOCH, UNKNOWN_MEMBER_ID, Closed, ConnectionLost, MalformedReply, NotSent, Refused,
                      ShareBrokerError, Unreachable)
@@ -19,13 +20,23 @@ REJOIN_S = 0.1
 
 
 class Membership:
-    """A member. It is heard as often as the broker wants it, whatever the consumer's own thread does."""
+    """A member. It is heard as often as the broker wants it, as long as the consumer polls.
 
-    def __init__(self, link: Link, group_id: str, member_id: str) -> None:
+    Where no poll was begun for `max_poll_interval_ms` it leaves the group, calls `on_leave`, and joins again with the
+    next poll. While a call of the consumer is under way it stays.
+    """
+
+    def __init__(self, link: Link, group_id: str, member_id: str, max_poll_interval_ms: float,
+                 on_leave: Callable[[], None]) -> None:
         self._link = link
         self._group_id = group_id
         self._member_id = member_id
+        self._max_poll_interval = max_poll_interval_ms / 1000
+        self._on_leave = on_leave
         self._changed = threading.Condition()
+        self._polled_at = 0.0
+        self._is_called = False
+        self._is_away = False
         self._topics: List[str] = []
         self._epoch = 0
         self._due = 0.0
@@ -43,8 +54,32 @@ class Membership:
             self._due = 0.0
             self._changed.notify_all()
             if self._thread is None:
+                self._polled_at = time.monotonic()
                 self._thread = threading.Thread(target=self._run, name="sharebroker-heartbeats", daemon=True)
                 self._thread.start()
+
+    def call_begins(self) -> None:
+        """A call of the consumer begins."""
+        with self._changed:
+            self._is_called = True
+
+    def poll_begins(self) -> None:
+        """The call is a poll: a member that has left joins again."""
+        with self._changed:
+            if self._is_away:
+                self._is_away = False
+                self._due = 0.0
+                self._changed.notify_all()
+
+    def call_ends(self, is_poll: bool) -> None:
+        """The call has ended. From the end of a poll on the time runs until the next one."""
+        with self._changed:
+            self._is_called = False
+            if is_poll:
+                self._polled_at = time.monotonic()
+            if self._overdue_at() < self._due:
+                # The thread may wait for longer.
+                self._changed.notify_all()
 
     def assigned(self, deadline: float) -> List[Part]:
         """The partitions that the member is to read. Until they are told it waits, and there are none at the deadline.
@@ -85,16 +120,51 @@ class Membership:
     def _run(self) -> None:
         while True:
             with self._changed:
-                while not self._ends and time.monotonic() < self._due:
-                    self._changed.wait(self._due - time.monotonic())
+                while not self._ends and not self._has_work():
+                    self._changed.wait(self._pause())
                 if self._ends:
                     break
+                leaves = self._is_overdue()
+                if leaves:
+                    self._set_away()
                 request = ShareGroupHeartbeatRequest(self._group_id, self._member_id, self._epoch, None, self._topics)
                 # The next one, where this one fails: the pause is the link's.
                 self._due = 0.0
-            if not self._beat(request):
+            if leaves:
+                self._go_away()
+            elif not self._beat(request):
                 return
         self._say_goodbye()
+
+    def _overdue_at(self) -> float:
+        return self._polled_at + self._max_poll_interval
+
+    def _is_overdue(self) -> bool:
+        return not self._is_away and not self._is_called and self._overdue_at() <= time.monotonic()
+
+    def _has_work(self) -> bool:
+        return self._is_overdue() or not self._is_away and self._due <= time.monotonic()
+
+    def _pause(self) -> Optional[float]:
+        """How long there is nothing to do, in seconds; None until the next call."""
+        if self._is_away:
+            return None
+        moment = self._due if self._is_called else min(self._due, self._overdue_at())
+        return max(0.0, moment - time.monotonic())
+
+    def _set_away(self) -> None:
+        """Nothing is assigned any more. What is in hand is let go while no call is under way."""
+        self._is_away, self._is_told, self._assigned = True, False, []
+        self._on_leave()
+
+    def _go_away(self) -> None:
+        """Leaves the group, until the next poll."""
+        LOG.warning("poll wasn't called for %d ms: the member leaves the group %r until it is, and the broker releases "
+                    "what was held", self._max_poll_interval * 1000, self._group_id)
+        self._say_goodbye()
+        self._link.let_go()
+        with self._changed:
+            self._epoch = 0
 
     def _beat(self, request: ShareGroupHeartbeatRequest) -> bool:
         """Sends a heartbeat. It is False where no other makes sense."""
@@ -136,6 +206,11 @@ class Membership:
                                   for number in topic.partitions]
             self._changed.notify_all()
         return True
+
+    def name_of(self, topic_id: UUID) -> str:
+        """The name of a topic that is assigned."""
+        known = self._link.topics.by_id.get(topic_id) if self._link.topics else None
+        return known.name if known else str(topic_id)
 
     def _name_unknown(self) -> None:
         for name in self._topics:

@@ -2,6 +2,7 @@
 
 from __future__ import annotations
 
+import ssl
 import threading
 import time
 from concurrent.futures import Future
@@ -9,9 +10,10 @@ from dataclasses import dataclass
 from typing import Optional, Sequence
 
 from .accumulator import Accumulator, RecordMetadata
-from .batches import MAX_BATCH_BYTES, Header
+from .batches import BATCH_OVERHEAD, MAX_BATCH_BYTES, Header
+from .checks import check_bytes, check_flag, check_ms, check_text, check_whole
 from .errors import BufferFull, Closed, RecordTooLarge, UnknownTopic
-from .link import Link, Topics, check_timeout
+from .link import Link, Topics
 from .partitioner import partition_of
 from .sender import Sender
 
@@ -42,24 +44,27 @@ class ProducerSettings:
     #: The pause before a lost connection is made again, in ms: at first, and at most.
     reconnect_backoff_ms: int = 50
     reconnect_backoff_max_ms: int = 1000
+    #: A connection that was silent for so long, in ms, is made again before it is used: less than the broker's
+    #: `--idle-ms`, after which that one ends it.
+    connections_max_idle_ms: float = 540000
+    #: What connections are encrypted with, where they are.
+    ssl_context: Optional[ssl.SSLContext] = None
     #: Whether a batch that was sent and not answered is sent again. It may then be stored twice: at least once.
     retry_unknown: bool = False
     #: A name that is sent along. The broker doesn't use it.
     client_id: str = "sharebroker-python"
 
     def check(self) -> None:
-        """Settings that make no sense are a `ValueError`."""
+        """Settings that make no sense are a `ValueError` or a `TypeError`. The link checks those that it uses."""
         if self.acks not in (-1, 0, 1):
-            raise ValueError("acks is -1, 0 or 1")
-        if not 61 <= self.batch_size <= MAX_BATCH_BYTES:
-            raise ValueError(f"batch_size is 61 to {MAX_BATCH_BYTES}")
-        if min(self.linger_ms, self.max_block_ms, self.delivery_timeout_ms) < 0:
-            raise ValueError("a time is at least 0")
-        check_timeout(self.request_timeout_ms)
-        if self.buffer_memory < MAX_BATCH_BYTES:
-            raise ValueError(f"buffer_memory is at least {MAX_BATCH_BYTES}")
-        if not 1 <= self.max_request_size <= 8388608:
-            raise ValueError("max_request_size is 1 to 8388608")
+            raise ValueError(f"acks is -1, 0 or 1, and not {self.acks!r}")
+        check_whole("batch_size", self.batch_size, BATCH_OVERHEAD, MAX_BATCH_BYTES)
+        check_whole("buffer_memory", self.buffer_memory, MAX_BATCH_BYTES, 1 << 62)
+        check_whole("max_request_size", self.max_request_size, 1, 8388608)
+        check_flag("retry_unknown", self.retry_unknown)
+        for name in ("linger_ms", "max_block_ms", "delivery_timeout_ms", "retry_backoff_ms", "retry_backoff_max_ms",
+                     "reconnect_backoff_ms", "reconnect_backoff_max_ms", "connections_max_idle_ms"):
+            check_ms(name, getattr(self, name))
 
 
 class Producer:
@@ -81,7 +86,8 @@ class Producer:
         self.settings = ProducerSettings(**settings)  # type: ignore[arg-type]
         self.settings.check()
         self._link = Link(bootstrap_servers, self.settings.client_id, self.settings.request_timeout_ms,
-                          self.settings.reconnect_backoff_ms, self.settings.reconnect_backoff_max_ms)
+                          self.settings.reconnect_backoff_ms, self.settings.reconnect_backoff_max_ms,
+                          self.settings.ssl_context, self.settings.connections_max_idle_ms)
         self._changed = threading.Condition()
         self._waiting = Accumulator(self.settings.batch_size, self.settings.linger_ms, self.settings.max_request_size)
         self._sender = Sender(self.settings, self._link, self._waiting, self._changed)
@@ -102,6 +108,8 @@ class Producer:
 
         Without a partition a record with a key goes where Kafka's hash of the key says, and one without goes where the
         records without a key gather just now. `timestamp_ms` is the time in ms since 1970 (UTC), else the time now.
+        Headers are pairs of a text and bytes or None. An argument of another type or value is a `TypeError` or a
+        `ValueError`.
 
         At once: `UnknownTopic`, `RecordTooLarge`, `BufferFull`, `Unreachable`, `Closed`; then the record isn't sent.
 
@@ -110,20 +118,22 @@ class Producer:
         In the future's `result()`: where and at which offset it is stored; or `Refused` (it isn't stored; with code 56
         never, as that is sent again), `OutcomeUnknown` (it may be), `DeliveryTimeout`, `Closed` (it isn't).
         """
-        for content in (key, value):
-            if content is not None and not isinstance(content, (bytes, bytearray)):
-                raise TypeError(f"keys and values are bytes or None, and not {type(content).__name__}")
+        check_text("topic", topic, 0, 32767)
+        check_bytes("value", value)
+        check_bytes("key", key)
+        _check_headers(headers)
+        if partition is not None:
+            check_whole("partition", partition, 0, 2147483647)
         if timestamp_ms is None:
             timestamp_ms = int(time.time() * 1000)
-        if not 0 <= timestamp_ms < 1 << 63:
-            raise ValueError("timestamp_ms is 0 to 2^63 - 1")
+        check_whole("timestamp_ms", timestamp_ms, 0, (1 << 63) - 1)
         deadline = time.monotonic() + self.settings.max_block_ms / 1000
         with self._changed:
             self._check_open()
             number = self._choose(topic, key, partition, deadline)
             size = len(value or b"") + len(key or b"")
             if size > MAX_BATCH_BYTES:
-                raise RecordTooLarge(f"a record of {size} bytes and more")
+                raise RecordTooLarge(BATCH_OVERHEAD + size, MAX_BATCH_BYTES)
             self._wait_for_room(size, deadline)
             future = self._waiting.add(topic, number, timestamp_ms, key, value, headers)
             self._changed.notify_all()
@@ -135,6 +145,8 @@ class Producer:
         It is False where the time was up; what is left is sent all the same. What became of a record is told by its
         future.
         """
+        if timeout_ms is not None:
+            check_ms("timeout_ms", timeout_ms)
         deadline = None if timeout_ms is None else time.monotonic() + timeout_ms / 1000
         with self._changed:
             batches = self._waiting.hurry()
@@ -149,6 +161,8 @@ class Producer:
     def close(self, timeout_ms: Optional[float] = None) -> None:
         """Sends what waits, at most `timeout_ms` long, and closes the connection. The futures of what is left are
         `Closed`, and it isn't stored; or `OutcomeUnknown` where it was sent. A second call does nothing."""
+        if timeout_ms is not None:
+            check_ms("timeout_ms", timeout_ms)
         with self._changed:
             if self._closed:
                 return
@@ -158,6 +172,7 @@ class Producer:
 
     def partitions_for(self, topic: str) -> int:
         """How many partitions a topic has. `UnknownTopic`, `Unreachable`, `Closed`."""
+        check_text("topic", topic, 0, 32767)
         with self._changed:
             self._check_open()
             return self._count(topic, time.monotonic() + self.settings.max_block_ms / 1000)
@@ -191,3 +206,12 @@ class Producer:
                 raise BufferFull(f"{self._waiting.bytes_waiting} bytes wait for the broker")
             self._changed.wait(left)
             self._check_open()
+
+
+def _check_headers(headers: Sequence[Header]) -> None:
+    if isinstance(headers, (str, bytes, dict)):
+        raise TypeError("headers is a list of pairs of a text and bytes or None")
+    for header in headers:
+        if not isinstance(header, (tuple, list)) or len(header) != 2 or not isinstance(header[0], str):
+            raise TypeError("headers is a list of pairs of a text and bytes or None")
+        check_bytes("the value of a header", header[1])

@@ -2,11 +2,13 @@
 
 from __future__ import annotations
 
+import ssl
 import time
 from dataclasses import dataclass
 from enum import IntEnum
 from typing import List, Optional, Sequence, Tuple
 
+from .checks import MOST_MS, check_text, check_whole
 from .errors import UNKNOWN_TOPIC_OR_PARTITION, MalformedReply, NotSent, Refused, UnknownTopic, Unreachable
 from .link import Link, Topic
 from .messages import READ_STATE, ReadPartition, ReadResult, ReadShareGroupStateRequest, ReadTopic
@@ -34,23 +36,48 @@ class StoredRun:
 @dataclass(frozen=True)
 class PartitionState:
     """What is stored of a group on a partition. All below `start_offset` is acknowledged, archived or deleted, or came
-    before the group, and what is in none of the runs was never delivered. Where the group has never fetched from the
-    partition `start_offset` is None."""
+    before the group, which isn't told apart any more; and what is in none of the runs was never delivered. Where the
+    group has never fetched from the partition `start_offset` is None."""
 
     topic: str
     partition: int
     start_offset: Optional[int]
     runs: Tuple[StoredRun, ...]
 
+    @property
+    def done(self) -> int:
+        """How many records from `start_offset` on are acknowledged."""
+        return self._count(DeliveryState.ACKNOWLEDGED)
+
+    @property
+    def given_up(self) -> int:
+        """How many records from `start_offset` on are archived: rejected, or released as often as the limit says."""
+        return self._count(DeliveryState.ARCHIVED)
+
+    def open_below(self, offset: int) -> int:
+        """How many offsets below this one are neither acknowledged nor archived, from `start_offset` on."""
+        if self.start_offset is None:
+            return max(0, offset)
+        closed = sum(min(run.last_offset + 1, offset) - run.first_offset for run in self.runs
+                     if run.state is not DeliveryState.AVAILABLE and run.first_offset < offset)
+        return max(0, offset - self.start_offset - closed)
+
+    def _count(self, state: DeliveryState) -> int:
+        return sum(run.last_offset + 1 - run.first_offset for run in self.runs if run.state is state)
+
 
 def share_group_state(bootstrap_servers: str, group_id: str, topics: Optional[Sequence[str]] = None,
-                      timeout_ms: int = 30000) -> List[PartitionState]:
+                      timeout_ms: int = 30000, ssl_context: Optional[ssl.SSLContext] = None) -> List[PartitionState]:
     """What is stored of a group on each partition of these topics, or of all. It changes nothing.
 
     `Unreachable`, `UnsupportedBroker`, `UnknownTopic`, `ConnectionLost`, `MalformedReply`; `Refused` (code 24: the
     group has no name or a longer one than 255 bytes).
     """
-    link = Link(bootstrap_servers, "sharebroker-python", timeout_ms, 50, 1000)
+    check_text("group_id", group_id, 0, 32767)
+    check_whole("timeout_ms", timeout_ms, 1, MOST_MS)
+    if isinstance(topics, (str, bytes)):
+        raise TypeError("topics is a list of names, or None for all")
+    link = Link(bootstrap_servers, "sharebroker-python", timeout_ms, 50, 1000, ssl_context)
     try:
         connection = link.connect(time.monotonic() + timeout_ms / 1000)
         chosen = _choose(link, topics)

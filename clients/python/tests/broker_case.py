@@ -1,7 +1,9 @@
 """What the tests against the built broker have in common."""
 
+import logging
 import time
 import unittest
+from contextlib import contextmanager
 
 from context import needs_program
 from replay_broker import ReplayBroker
@@ -55,6 +57,19 @@ class BrokerCase(unittest.TestCase):
         return [(part.start_offset, [(run.first_offset, run.last_offset, run.state.name.lower(), run.delivery_count)
                                      for run in part.runs])
                 for part in share_group_state(self.servers, group)]
+
+    @contextmanager
+    def no_warnings(self):
+        """Within it nothing is told in the log."""
+        heard = []
+        handler = logging.Handler(logging.WARNING)
+        handler.emit = lambda record: heard.append(record.getMessage())
+        logging.getLogger("sharebroker").addHandler(handler)
+        try:
+            yield
+        finally:
+            logging.getLogger("sharebroker").removeHandler(handler)
+        self.assertEqual([], heard)
 
     def wait_until(self, holds, seconds=10):
         """Waits until something holds, which has to be soon."""

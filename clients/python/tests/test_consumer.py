@@ -6,7 +6,8 @@ import unittest
 
 import context  # noqa: F401
 from broker_case import ORDERS, BrokerCase, outcomes, told
-from sharebroker import AcknowledgeType, Closed, NotInHand, Refused, ShareConsumer, Unacknowledged, WrongMode
+from sharebroker import (AcknowledgeType, Closed, ConcurrentUse, ConsumerRecord, NotInHand, NotSubscribed, Refused,
+                         ShareConsumer, Unacknowledged, UnknownTopic, WrongMode)
 from sharebroker.connection import Connection, parse_addresses
 from sharebroker.share_messages import SHARE_GROUP_HEARTBEAT, ShareGroupHeartbeatRequest
 
@@ -146,8 +147,14 @@ class Working(BrokerCase):
             consumer = self.consumer(topics=["others"])
             self.wait_until(lambda: consumer.poll(50) == [] and logs.output)
         self.assertIn("'others'", logs.output[0])
+        with self.assertRaises(UnknownTopic):
+            consumer.partitions_for("others")
+        self.assertEqual((1, set()), (consumer.partitions_for("orders"), consumer.assignment()))
         consumer.subscribe([])
-        self.assertEqual([], consumer.poll(50))
+        with self.assertRaises(NotSubscribed):
+            consumer.poll(50)
+        consumer.subscribe(["orders"])
+        self.assertEqual({("orders", 0)}, consumer.assignment(5000))
 
     def test_empty_fetches_pause_longer_and_longer(self):
         broker = self.scripted_broker()
@@ -218,7 +225,7 @@ class Losing(BrokerCase):
         broker.drop_connections()
         consumer.acknowledge(first)
         consumer.acknowledge(second)
-        with self.assertLogs("sharebroker", "WARNING"):
+        with self.no_warnings():
             self.assertEqual([(0, "lost"), (1, "lost")], outcomes(consumer.commit()))
             self.assertEqual([(0, b"a", 2), (1, b"b", 2)], told(consumer.poll(5000)))
 
@@ -253,10 +260,9 @@ class Losing(BrokerCase):
         consumer.commit()
         broker.power(0)
         consumer.acknowledge(second)
-        with self.assertLogs("sharebroker", "WARNING"):
-            self.assertEqual([(1, "lost")], outcomes(consumer.commit()))
-            # Nothing was stored of the second one's delivery.
-            self.assertEqual([(1, b"b", 1)], told(consumer.poll(5000)))
+        self.assertEqual([(1, "lost")], outcomes(consumer.commit()))
+        # Nothing was stored of the second one's delivery.
+        self.assertEqual([(1, b"b", 1)], told(consumer.poll(5000)))
 
     def test_a_member_that_was_forgotten_joins_again(self):
         broker = self.scripted_broker()
@@ -290,7 +296,178 @@ class Losing(BrokerCase):
             consumer.close()
 
 
+class Delaying(BrokerCase):
+    def test_a_release_with_a_delay_keeps_the_record_locked(self):
+        self.broker()
+        self.produce(b"a", b"b", b"c")
+        consumer, other = self.consumer(), self.consumer()
+        first, = consumer.poll(5000, max_records=1)
+        began = time.monotonic()
+        consumer.acknowledge(first, RELEASE, delay_ms=700)
+        # Meanwhile the acknowledgements of other polls go out, and nobody gets the record.
+        second, = consumer.poll(5000, max_records=1)
+        consumer.acknowledge(second)
+        self.assertEqual([(1, "stored")], outcomes(consumer.commit()))
+        self.assertEqual([(2, b"c", 1)], told(other.poll(5000)))
+        self.assertEqual([(0, b"a", 2)], told(consumer.poll(5000)))
+        self.assertGreater(time.monotonic() - began, 0.69)
+
+    def test_a_commit_tells_a_delayed_release_when_it_is_sent(self):
+        self.broker()
+        self.produce(b"a")
+        consumer = self.consumer()
+        record, = consumer.poll(5000)
+        consumer.acknowledge(record, RELEASE, delay_ms=200)
+        self.assertEqual([], consumer.commit())
+        time.sleep(0.25)
+        self.assertEqual([(0, "stored")], outcomes(consumer.commit()))
+        with self.assertRaises(NotInHand):
+            consumer.acknowledge(record)
+
+    def test_another_choice_before_a_delayed_release_is_sent(self):
+        self.broker()
+        self.produce(b"a", b"b")
+        consumer = self.consumer()
+        record, = consumer.poll(5000, max_records=1)
+        consumer.acknowledge(record, RELEASE, delay_ms=20000)
+        other, = consumer.poll(5000)
+        consumer.acknowledge(record, ACCEPT)
+        consumer.acknowledge(other)
+        self.assertEqual([(0, "stored"), (1, "stored")], outcomes(consumer.commit()))
+        self.assertEqual([(2, [])], self.state())
+
+    def test_close_releases_what_is_delayed_at_once(self):
+        self.broker()
+        self.produce(b"a")
+        consumer = self.consumer()
+        heard = []
+        consumer.set_acknowledgement_commit_callback(heard.extend)
+        consumer.acknowledge(consumer.poll(5000)[0], RELEASE, delay_ms=20000)
+        consumer.close()
+        self.assertEqual([(0, "stored")], outcomes(heard))
+        self.assertEqual([(0, b"a", 2)], told(self.consumer().poll(5000)))
+
+    def test_a_delay_ends_before_the_lock_does(self):
+        self.broker(lock_ms=1000)
+        self.produce(b"a", b"b")
+        consumer = self.consumer()
+        first, second = consumer.poll(5000)
+        with self.assertRaisesRegex(ValueError, "delay_ms is at most the time of a lock, 1000"):
+            consumer.acknowledge(first, RELEASE, delay_ms=1001)
+        heard = []
+        consumer.set_acknowledgement_commit_callback(heard.extend)
+        time.sleep(0.5)
+        consumer.acknowledge(first, RELEASE, delay_ms=1000)
+        consumer.acknowledge(second)
+        self.assertEqual([(0, b"a", 2)], told(consumer.poll(5000)))
+        self.assertEqual([(1, "stored"), (0, "stored")], outcomes(heard))
+
+    def test_a_delayed_release_whose_lock_has_ended_is_lost_and_spoils_no_other(self):
+        broker = self.scripted_broker(lock_ms=300)
+        self.produce(b"a", b"b")
+        consumer = self.consumer()
+        first, = consumer.poll(5000, max_records=1)
+        consumer.acknowledge(first, RELEASE, delay_ms=250)
+        second, = consumer.poll(200, max_records=1)
+        time.sleep(0.35)
+        consumer.acknowledge(second)
+        # By the broker's clock, which stands still, both locks last.
+        self.assertEqual([(0, "lost"), (1, "stored")], outcomes(consumer.commit()))
+        broker.advance(300)
+        broker.expire("orders", 0)
+        self.assertEqual([(0, b"a", 2)], told(consumer.poll(5000)))
+
+    def test_a_lost_connection_loses_what_is_delayed(self):
+        broker = self.scripted_broker()
+        self.produce(b"a")
+        consumer = self.consumer()
+        consumer.acknowledge(consumer.poll(5000)[0], RELEASE, delay_ms=20000)
+        self.assertEqual([], consumer.poll(0))
+        broker.drop_connections()
+        self.assertEqual([(0, "lost")], outcomes(consumer.commit()))
+        self.assertEqual([(0, b"a", 2)], told(consumer.poll(5000)))
+
+
+class Hanging(BrokerCase):
+    def test_a_consumer_that_polls_no_more_leaves_and_its_partition_goes_on(self):
+        self.broker(f"orders:2:{ORDERS}", lock_ms=60000)
+        self.produce(b"a", partition=0)
+        self.produce(b"b", partition=1)
+        hanging, other = self.consumer(max_poll_interval_ms=700), self.consumer()
+        for consumer in (hanging, other):
+            self.assertTrue(consumer.assignment(5000))
+        records = []
+        self.wait_until(lambda: records.extend(hanging.poll(100, max_records=1)) or records)
+        with self.assertLogs("sharebroker", "WARNING") as logs:
+            found = set()
+            end = time.monotonic() + 20
+            while found != {b"a", b"b"} and time.monotonic() < end:
+                for record in other.poll(200):
+                    found.add(record.value)
+                    other.acknowledge(record)
+        self.assertEqual({b"a", b"b"}, found)
+        self.assertIn("poll wasn't called for 700 ms", logs.output[0])
+        self.assertIsNone(hanging._link.current())
+        # It comes back, and what it says of its record comes too late.
+        hanging.acknowledge(records[0])
+        heard = []
+        hanging.set_acknowledgement_commit_callback(heard.extend)
+        self.assertEqual([], hanging.poll(1000))
+        self.assertEqual([(0, "lost")], outcomes(heard))
+        self.assertEqual(1, len(hanging.assignment(5000)))
+
+    def test_a_commit_tells_as_lost_what_a_consumer_that_left_had_in_hand(self):
+        self.broker(lock_ms=60000)
+        self.produce(b"a")
+        consumer = self.consumer(max_poll_interval_ms=200)
+        record, = consumer.poll(5000)
+        with self.assertLogs("sharebroker", "WARNING"):
+            self.wait_until(lambda: consumer._link.current() is None)
+        consumer.acknowledge(record)
+        self.assertEqual([(0, "lost")], outcomes(consumer.commit()))
+        self.assertEqual([(0, b"a", 2)], told(consumer.poll(5000)))
+
+    def test_a_poll_that_waits_for_longer_stays(self):
+        self.broker()
+        consumer = self.consumer(max_poll_interval_ms=200)
+        self.joined(consumer)
+        with self.no_warnings():
+            self.assertEqual([], consumer.poll(800))
+            self.assertEqual({("orders", 0)}, consumer.assignment())
+
+    def test_a_consumer_that_left_closes(self):
+        broker = self.scripted_broker()
+        consumer = self.consumer(max_poll_interval_ms=100)
+        self.joined(consumer)
+        with self.assertLogs("sharebroker", "WARNING"):
+            self.wait_until(lambda: broker.connections() == 0)
+        consumer.close()
+
+
 class Misuse(BrokerCase):
+    def test_two_threads(self):
+        self.broker()
+        consumer = self.consumer()
+        self.joined(consumer)
+        polling = threading.Thread(target=consumer.poll, args=(1500,))
+        polling.start()
+        time.sleep(0.3)
+        for call in (consumer.poll, consumer.commit, consumer.close, lambda: consumer.subscribe(["orders"])):
+            with self.assertRaises(ConcurrentUse):
+                call()
+        polling.join()
+        self.assertEqual([], consumer.poll(0))
+
+    def test_a_callback_may_call_its_consumer(self):
+        self.broker()
+        self.produce(b"a")
+        consumer = self.consumer()
+        heard = []
+        consumer.set_acknowledgement_commit_callback(lambda told_of: heard.append(consumer.assignment()))
+        consumer.acknowledge(consumer.poll(5000)[0])
+        consumer.commit()
+        self.assertEqual([{("orders", 0)}], heard)
+
     def test_explicit_mode_wants_each_record_acknowledged(self):
         self.broker()
         self.produce(b"a", b"b")
@@ -356,14 +533,40 @@ class Misuse(BrokerCase):
 
     def test_settings_that_make_no_sense(self):
         for settings in ({"share_acknowledgement_mode": "auto"}, {"max_poll_records": 0}, {"fetch_max_bytes": 0},
-                         {"fetch_max_wait_ms": 1 << 31}, {"request_timeout_ms": 0}):
-            with self.assertRaises(ValueError):
+                         {"fetch_max_wait_ms": 1 << 31}, {"request_timeout_ms": 0}, {"max_poll_interval_ms": 0}):
+            with self.assertRaisesRegex(ValueError, next(iter(settings))):
                 ShareConsumer("localhost:9092", "g", **settings)
-        with self.assertRaises(ValueError), ShareConsumer("localhost:9092", "g") as consumer:
-            consumer.poll(max_records=0)
+        for settings in ({"max_poll_records": "1"}, {"max_poll_interval_ms": None}, {"check_crcs": "yes"},
+                         {"fetch_backoff_ms": b"1"}, {"ssl_context": "ca.pem"}, {"polls": 1}):
+            with self.assertRaisesRegex(TypeError, next(iter(settings))):
+                ShareConsumer("localhost:9092", "g", **settings)
         for group in ("", "x" * 256):
-            with self.assertRaises(ValueError):
+            with self.assertRaisesRegex(ValueError, "group_id"):
                 ShareConsumer("localhost:9092", group)
+        with self.assertRaisesRegex(TypeError, "group_id"):
+            ShareConsumer("localhost:9092", b"g")
+
+    def test_arguments_that_make_no_sense(self):
+        with ShareConsumer("localhost:9092", "g", share_acknowledgement_mode="explicit") as consumer:
+            for words in ({"max_records": 0}, {"timeout_ms": -1}, {"timeout_ms": float("nan")}):
+                with self.assertRaisesRegex(ValueError, next(iter(words))):
+                    consumer.poll(**words)
+            for words in ({"max_records": "1"}, {"timeout_ms": "1"}):
+                with self.assertRaisesRegex(TypeError, next(iter(words))):
+                    consumer.poll(**words)
+            for topics in ("orders", [7]):
+                with self.assertRaisesRegex(TypeError, "topics"):
+                    consumer.subscribe(topics)
+            with self.assertRaisesRegex(TypeError, "record"):
+                consumer.acknowledge(7)
+            record = ConsumerRecord("orders", 0, 0, 0, None, None, (), 1)
+            for words in ({"type": 0}, {"delay_ms": 1}, {"delay_ms": -1, "type": RELEASE}):
+                with self.assertRaisesRegex(ValueError, next(iter(words))):
+                    consumer.acknowledge(record, **words)
+            with self.assertRaises(NotInHand):
+                consumer.acknowledge(record)
+            with self.assertRaises(NotSubscribed):
+                consumer.poll(0)
 
 
 if __name__ == "__main__":

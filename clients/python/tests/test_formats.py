@@ -252,10 +252,10 @@ class Acknowledging(unittest.TestCase):
         hand = Hand([(self.PART, record) for record in records], {self.PART: gaps})
         hand.acknowledge(records[0], AcknowledgeType.ACCEPT)
         hand.acknowledge(records[1], AcknowledgeType.RELEASE)
-        sent = hand.take()
+        sent = hand.take(0.0)
         self.assertEqual({self.PART: [share_messages.AcknowledgementBatch(1, 4, [1, 2, 0, 0])]}, sent.batches())
         self.assertEqual([1, 2], [ended.record.offset for ended in sent.all_ended(Outcome.STORED)])
-        self.assertFalse(hand.take())
+        self.assertFalse(hand.take(0.0))
 
 
 class Small(unittest.TestCase):

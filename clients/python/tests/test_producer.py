@@ -78,8 +78,9 @@ class Sending(BrokerCase):
         producer = self.producer(batch_size=1048588)
         value = bytes(1048588 - 61 - 20)
         self.assertEqual(0, producer.send("orders", value).result(20).offset)
-        with self.assertRaises(RecordTooLarge):
-            producer.send("orders", bytes(1048588))
+        for size in (1048588 - 61 - 10, 1048588):
+            with self.assertRaisesRegex(RecordTooLarge, "the broker takes 1048588"):
+                producer.send("orders", bytes(size))
 
     def test_several_threads_send(self):
         self.broker()
@@ -115,10 +116,16 @@ class Failing(BrokerCase):
             producer.send("others", b"x")
         with self.assertRaises(UnknownTopic):
             producer.send("orders", b"x", partition=1)
-        with self.assertRaises(TypeError):
-            producer.send("orders", "x")
-        with self.assertRaises(ValueError):
-            producer.send("orders", b"x", timestamp_ms=-1)
+        for name, words in (("value", {"value": "x"}), ("key", {"value": b"x", "key": 7}),
+                            ("topic", {"topic": None, "value": b"x"}), ("partition", {"value": b"x", "partition": "0"}),
+                            ("timestamp_ms", {"value": b"x", "timestamp_ms": 1.5}),
+                            ("headers", {"value": b"x", "headers": {"a": b"b"}}),
+                            ("header", {"value": b"x", "headers": [("a", "b")]})):
+            with self.assertRaisesRegex(TypeError, name):
+                producer.send(**{"topic": "orders", **words})
+        for name, value in (("timestamp_ms", -1), ("partition", -1)):
+            with self.assertRaisesRegex(ValueError, name):
+                producer.send("orders", b"x", **{name: value})
         self.assertEqual(0, producer.send("orders", b"x").result(10).offset)
 
     def test_a_batch_that_was_not_stored_is_sent_again(self):
@@ -251,17 +258,30 @@ class Failing(BrokerCase):
         producer = self.producer(linger_ms=0)
         self.assertEqual(0, producer.send("orders", b"x").result(10).offset)
         broker.drop_connections()
-        with self.assertLogs("sharebroker", "WARNING"):
+        began = time.monotonic()
+        with self.no_warnings():
             stored = producer.send("orders", b"y").result(10)
         self.assertEqual((1, False), (stored.offset, stored.maybe_stored_twice))
+        self.assertLess(time.monotonic() - began, 5)
+
+    def test_a_connection_that_was_silent_for_long_is_made_again_before_it_is_used(self):
+        broker = self.scripted_broker()
+        producer = self.producer(linger_ms=0, connections_max_idle_ms=100)
+        self.assertEqual(0, producer.send("orders", b"x").result(10).offset)
+        first = producer._link.current()
+        with self.no_warnings():
+            time.sleep(0.15)
+            self.assertEqual(1, producer.send("orders", b"y").result(10).offset)
+            self.assertFalse(first.is_open)
+            self.assertEqual(2, producer.send("orders", b"z").result(10).offset)
+        self.wait_until(lambda: broker.connections() == 1)
 
     def test_after_a_power_loss(self):
         broker = self.scripted_broker()
         producer = self.producer(linger_ms=0)
         producer.send("orders", b"x").result(10)
         broker.power(0)
-        with self.assertLogs("sharebroker", "WARNING"):
-            self.assertEqual(1, producer.send("orders", b"y").result(10).offset)
+        self.assertEqual(1, producer.send("orders", b"y").result(10).offset)
 
 
 class Alone(unittest.TestCase):
@@ -270,11 +290,17 @@ class Alone(unittest.TestCase):
     def test_settings_that_make_no_sense(self):
         for settings in ({"acks": 2}, {"batch_size": 60}, {"batch_size": 1048589}, {"linger_ms": -1},
                          {"buffer_memory": 1}, {"max_request_size": 0}, {"client_id": "x" * 32768},
-                         {"request_timeout_ms": 0}, {"request_timeout_ms": 1.5}, {"request_timeout_ms": 1 << 31}):
-            with self.assertRaises(ValueError):
+                         {"request_timeout_ms": 0}, {"request_timeout_ms": 1 << 31}, {"linger_ms": float("nan")}):
+            with self.assertRaisesRegex(ValueError, next(iter(settings))):
                 Producer("localhost:9092", **settings)
-        with self.assertRaises(TypeError):
-            Producer("localhost:9092", lingers=1)
+        with self.assertRaisesRegex(ValueError, "batch_size is 61 to 1048588, and not 60"):
+            Producer("localhost:9092", batch_size=60)
+        for settings in ({"request_timeout_ms": 1.5}, {"batch_size": "1000"}, {"linger_ms": "5"}, {"client_id": b"x"},
+                         {"retry_unknown": 1}, {"buffer_memory": None}, {"ssl_context": True}, {"lingers": 1}):
+            with self.assertRaisesRegex(TypeError, next(iter(settings))):
+                Producer("localhost:9092", **settings)
+        with self.assertRaisesRegex(TypeError, "bootstrap_servers"):
+            Producer(("localhost", 9092))
         with self.assertRaises(ValueError):
             Producer("localhost")
 

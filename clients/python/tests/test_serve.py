@@ -62,11 +62,10 @@ class Killing(BrokerCase):
         broker.kill()
         broker.start()
         consumer.acknowledge(second)
-        with self.assertLogs("sharebroker", "WARNING"):
-            self.assertEqual([(1, "lost")], outcomes(consumer.commit()))
-            again = []
-            while not again:
-                again = consumer.poll(5000)
+        self.assertEqual([(1, "lost")], outcomes(consumer.commit()))
+        again = []
+        while not again:
+            again = consumer.poll(5000)
         self.assertEqual([(1, b"b", 1)], told(again))
         consumer.acknowledge(again[0])
         consumer.commit()
