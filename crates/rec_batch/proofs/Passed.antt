@@ -47,7 +47,7 @@ split_some (pos n) bytes x e = go (nat_lt (length bytes) n) refl e
         (ap pos (let q : n ≡ length (take n bytes) = omega (arith, length-take n bytes) in q ∙ ap (λ y. length y.0) p), sym (take-append-drop n bytes) ∙ ap (λ y. y.0 ++ y.1) p)
 split_some (negsuc n) bytes x e = cc
 
-split_gives : (content tail : List ℕ) → split_in (pos (length content)) (content ++ tail) ≡ Some (content, tail)
+pub split_gives : (content tail : List ℕ) → split_in (pos (length content)) (content ++ tail) ≡ Some (content, tail)
 unfolding split_in
 split_gives content tail =
     let enough : nat_lt (length (content ++ tail)) (length content) ≡ false = le-ltb (length (content ++ tail)) (length content) (omega (arith, length-append content tail)) in

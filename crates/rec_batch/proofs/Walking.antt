@@ -23,7 +23,7 @@ pub walked_none : (form : Form) (last : ℤ) (content : List ℕ) → Walked for
 walked_none form last content = record { front = []; records = []; parts = refl; before = refl; number = refl; is_due = (tt, refl) }
 
 -- one more at the end
-many_more : (front more : List ℕ) (records : List Record) (r : Record) → AreMany IsRecord front records → IsRecord more r → AreMany IsRecord (front ++ more) (records ++ (r ∷ []))
+pub many_more : (front more : List ℕ) (records : List Record) (r : Record) → AreMany IsRecord front records → IsRecord more r → AreMany IsRecord (front ++ more) (records ++ (r ∷ []))
 many_more front more [] r s t = (more, [], t, refl, ap (λ l. l ++ more) s ∙ sym (append-nil more))
 many_more front more (q ∷ records) r s t = (s.0, s.1 ++ more, s.2, many_more s.1 more records r s.3 t, ap (λ l. l ++ more) s.4 ∙ append_assoc s.0 s.1 more)
 

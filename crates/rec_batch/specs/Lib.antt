@@ -5,3 +5,5 @@ pub mod Passing
 pub mod Verdicts
 pub mod Placing
 pub mod Written
+pub mod Places
+pub mod Pieces

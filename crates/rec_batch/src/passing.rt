@@ -39,7 +39,7 @@ fn any_varlong(bytes: &[u8]) -> Option<(i64, &[u8])>
 
 // A signed number of 32 bits. One of a single byte, as most are, takes a step.
 #[tactic(auto, using(crate::proofs::ShortNumbers::varint_one))]
-fn varint(bytes: &[u8]) -> Option<(i32, &[u8])>
+pub fn varint(bytes: &[u8]) -> Option<(i32, &[u8])>
     ensures { option_map (λ x. (x.0, x.1.now)) result ≡ varint_in bytes.now }
 {
     match bytes.split_first() {
@@ -49,7 +49,7 @@ fn varint(bytes: &[u8]) -> Option<(i32, &[u8])>
 }
 
 #[tactic(auto, using(crate::proofs::ShortNumbers::varlong_one))]
-fn varlong(bytes: &[u8]) -> Option<(i64, &[u8])>
+pub fn varlong(bytes: &[u8]) -> Option<(i64, &[u8])>
     ensures { option_map (λ x. (x.0, x.1.now)) result ≡ varlong_in bytes.now }
 {
     match bytes.split_first() {
@@ -59,7 +59,7 @@ fn varlong(bytes: &[u8]) -> Option<(i64, &[u8])>
 }
 
 #[tactic(auto, unfolding(crate::specs::Passing::byte_in))]
-fn byte(bytes: &[u8]) -> Option<&[u8]>
+pub fn byte(bytes: &[u8]) -> Option<&[u8]>
     ensures { option_copied result ≡ byte_in bytes.now }
 {
     match bytes {
@@ -69,7 +69,7 @@ fn byte(bytes: &[u8]) -> Option<&[u8]>
 }
 
 #[tactic(auto, unfolding(crate::specs::Passing::split_in))]
-fn split(bytes: &[u8], count: i32) -> Option<(&[u8], &[u8])>
+pub fn split(bytes: &[u8], count: i32) -> Option<(&[u8], &[u8])>
     ensures { option_map (λ x. (x.0.now, x.1.now)) result ≡ split_in count bytes.now }
 {
     if count < 0 || bytes.len() < count as usize {
@@ -99,7 +99,7 @@ fn content(bytes: &[u8], length: i32) -> Option<&[u8]>
 }
 
 #[tactic(auto, unfolding(crate::specs::Passing::nullable_in))]
-fn nullable(bytes: &[u8]) -> Option<&[u8]>
+pub fn nullable(bytes: &[u8]) -> Option<&[u8]>
     ensures { option_copied result ≡ nullable_in bytes.now }
 {
     let (length, after) = varint(bytes)?;
