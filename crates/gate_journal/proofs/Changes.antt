@@ -25,6 +25,10 @@ pub on_err_both : {T E : Type 0} (r : Result T E) (P Q R : Type 0) → OnErr r P
 on_err_both (Ok x) P Q R p q f = tt
 on_err_both (Err e) P Q R p q f = f p q
 
+pub on_either : {T E : Type 0} (r : Result T E) (P Q R : Type 0) → OnOk r P → OnErr r Q → (P → R) → (Q → R) → R
+on_either (Ok x) P Q R p q f h = f p
+on_either (Err e) P Q R p q f h = h q
+
 -- the content that was made is what a crash leaves, once it is synced
 pub synced_then : {T E : Type 0} (f : List ℕ → List ℕ) (old mid : Option (List ℕ)) (image : List ℕ → Type 0) (r : Result T E) → Becomes f old mid
     → OnOk r (Synced mid image) → OnOk r (Reaches f old image)

@@ -1,13 +1,14 @@
 -- A journal that isn't live: what a crash leaves of it while it is written and cleared.
-use Rattle.std.proofs.Common.{◌≡◌, ◌⊎◌, inl, inr, ⊎_elim, refl, sym, ap, ◌∙◌, subst, arith, ℕ, ◌≤◌, ◌+◌, List, [], ◌∷◌, ◌++◌, length, drop, Option, Some, None}
+use Rattle.std.proofs.Common.{◌≡◌, ◌⊎◌, inl, inr, ⊎_elim, refl, sym, ap, ◌∙◌, subst, arith, ℕ, ◌+◌, List, [], ◌∷◌, ◌++◌, length, drop, Option, Some, None}
 use Rattle.std.proofs.lemmas.Bool.{cases_eq}
 use Rattle.edge_io.specs.Views.{DiskView}
-use Rattle.gate_journal.specs.Frames.{IsShut, IsWithPending, IsBeforeOrAfter, StandsFor, blocks, behind_gate, framed}
+use Rattle.gate_journal.specs.Frames.{IsRest, IsShut, IsWithPending, IsBeforeOrAfter, StandsFor, blocks, behind_gate, framed}
 use Rattle.gate_journal.specs.Journals.{Stands, Mends}
-use Rattle.gate_journal.specs.Clearing.{IsAsBefore, IsBare, IsClosed, IsPartlyCleared, IsTouched}
+use Rattle.gate_journal.specs.Clearing.{IsAsBefore, IsBare, IsClosed, IsLone, IsPartlyCleared, IsShort, IsTouched}
 use Rattle.gate_journal.specs.declared.writer.Writer.{Writer}
 use Rattle.gate_journal.specs.declared.writer.Mending.{Mending}
 use Rattle.gate_journal.specs.declared.writer.Mending.TheVariants.{Nothing, Behind, Gate}
+use Rattle.gate_journal.proofs.Lone.{not_both, short, touched_short}
 use Rattle.gate_journal.proofs.Repairs.{none as no_blocks}
 use Rattle.gate_journal.proofs.Shaped.{at_mending}
 use Rattle.gate_journal.proofs.Shapes.{ajar_stands, gate_stands, rest_stands, shut_stands}
@@ -57,10 +58,17 @@ module _ (P : List (List ℕ) → Type 0) where
         let end = end_at journal.mending frames pending h.mends in
         record {
           none = zero;
-          bare = λ bare c now.
-              let none : frames ≡ [] = no_blocks frames (omega (arith, end, bare.end)) in
-              let shut = (at_mending seen journal journal.mending Behind frames pending bare.behind h.mends).each c now in
-              subst (λ (fs : List (List ℕ)). IsShut fs c) none shut;
+          bare = record {
+            closed = λ bare c now.
+                let none : frames ≡ [] = no_blocks frames (omega (arith, end, bare.end)) in
+                let shut = (at_mending seen journal journal.mending Behind frames pending bare.behind h.mends).each c now in
+                subst (λ (fs : List (List ℕ)). IsShut fs c) none shut;
+            short = λ lone c now.
+                let none : frames ≡ [] = no_blocks frames (omega (arith, end, lone.end)) in
+                let rest = subst (λ (fs : List (List ℕ)). IsRest fs c) none
+                ((at_mending seen journal journal.mending Nothing frames pending lone.nothing h.mends).1.each c now) in
+                let is = ap length rest.2 in omega (arith, is);
+          };
           loose = λ not c now. loose_at journal.mending frames pending h.mends
               (λ is none. not (record { end = end ∙ ap (λ (fs : List (List ℕ)). length (blocks fs) + 1) none; behind = is })) p q c now;
           each = λ c now. with_pending frames pending c p q (h.images c now);
@@ -70,7 +78,7 @@ module _ (P : List (List ℕ) → Type 0) where
     pub spare_shut : IsBare journal → IsClosed (seen journal.disk).image → P [] → IsSpare seen journal P
     spare_shut bare closed zero = record {
       none = zero;
-      bare = λ _. closed;
+      bare = record { closed = λ _. closed; short = λ lone. absurd (not_both journal.mending bare.behind lone.nothing) };
       loose = λ not c now. absurd (not bare);
       each = λ c now. let s = closed c now in ([], inr (s.0, s.1, s.2, s.3, tt), zero);
     }
@@ -113,11 +121,6 @@ module _ (P : List (List ℕ) → Type 0) (zero : P []) where
     | inr not ↦ ([], inr (gate, tail, not, refl, tt), zero)
   ]
 
-  short : (c d : List ℕ) → length d ≤ 1 → drop 1 c ≡ drop 1 d → length c ≤ 1
-  short [] d le same = omega arith
-  short (x ∷ c) [] le same = let is : c ≡ [] = same in omega (arith, ap length is)
-  short (x ∷ c) (y ∷ d) le same = let is : c ≡ d = same in omega (arith, le, ap length is)
-
   other_loose : (c d : List ℕ) → drop 1 c ≡ drop 1 d → IsLoose P d → IsLoose P c
   other_loose c d same (inl le) = inl (short c d le same)
   other_loose [] d same (inr s) = inl (omega arith)
@@ -140,22 +143,41 @@ module _ (P : List (List ℕ) → Type 0) (zero : P []) where
       was : IsBare new → IsBare journal
       was b = record { end = sym (ap (λ (w : Writer D). w.end) is) ∙ b.end; behind = sym (ap (λ (w : Writer D). w.mending) is) ∙ b.behind }
 
+      was_lone : IsLone new → IsLone journal
+      was_lone b = record { end = sym (ap (λ (w : Writer D). w.end) is) ∙ b.end; nothing = sym (ap (λ (w : Writer D). w.mending) is) ∙ b.nothing }
+
       stays : IsBare journal → IsBare new
       stays b = record { end = ap (λ (w : Writer D). w.end) is ∙ b.end; behind = ap (λ (w : Writer D). w.mending) is ∙ b.behind }
 
       pub spare_touched : ((c : List ℕ) → (seen new.disk).image c → IsTouched journal (seen journal.disk).image c) → IsSpare seen new P
       spare_touched touch = record {
         none = zero;
-        bare = λ b c now. let t = touch c now in elim t.2 [
-          | inl same ↦ subst (IsShut []) (sym same) (h.bare (was b) t.0 t.1)
-          | inr far ↦ absurd (far.0 (was b))
-        ];
+        bare = record {
+          closed = λ b c now. let t = touch c now in elim t.2 [
+            | inl same ↦ subst (IsShut []) (sym same) (h.bare.closed (was b) t.0 t.1)
+            | inr far ↦ absurd (far.0 (was b))
+          ];
+          short = λ lone c now. touched_short journal (seen journal.disk).image (h.bare.short (was_lone lone)) c (touch c now);
+        };
         loose = λ not c now. let t = touch c now in elim t.2 [
           | inl same ↦ subst (IsLoose P) (sym same) (h.loose (λ b. not (stays b)) t.0 t.1)
           | inr far ↦ other_loose c t.0 far.1 (h.loose far.0 t.0 t.1)
         ];
         each = λ c now. touched c (touch c now);
       }
+
+    -- the first gate was closed, and what was behind it is gone for any frames
+    pub spare_closed : (Q : List (List ℕ) → Type 0) → Q [] → (new : Writer D) → IsBare new ⊎ (IsLone journal × IsAsBefore journal new)
+        → IsClosed (seen new.disk).image → ((c : List ℕ) → (seen new.disk).image c → IsTouched journal (seen journal.disk).image c) → IsSpare seen new Q
+    spare_closed Q empty new (inl bare) closed touch = spare_shut Q seen new bare closed empty
+    spare_closed Q empty new (inr l) closed touch =
+        let few : IsShort (seen new.disk).image = λ c now. touched_short journal (seen journal.disk).image (h.bare.short l.0) c (touch c now) in
+        record {
+          none = empty;
+          bare = record { closed = λ _. closed; short = λ _. few };
+          loose = λ not c now. inl (few c now);
+          each = λ c now. ([], inl (few c now, refl), empty);
+        }
 
     -- clearing failed
     pub spare_partly : (new : Writer D) → IsPartlyCleared seen journal new → IsSpare seen new P

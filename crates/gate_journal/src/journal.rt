@@ -1,8 +1,8 @@
-ghost use Rattle.std.specs.Prelude.{◌≡◌, ◌≢◌, ◌⊎◌, ◌↔◌, ◌+◌, ◌≤◌, [], List, ℕ, length, Some, None, Err, IsTrue, IfOk, OnOk, OnErr};
+ghost use Rattle.std.specs.Prelude.{◌≡◌, ◌≢◌, ◌⊎◌, ◌↔◌, ◌+◌, ◌≤◌, [], List, ℕ, length, Some, None, Err, IsTrue, IfOk, IsOk, OnOk, OnErr};
 ghost use Rattle.std.specs.declared.option.Option.{Option};
 ghost use Rattle.edge_io.specs.Armed.{ArmsAlone, RunsOn, StarvesUnarmed};
 ghost use Rattle.edge_io.specs.Causes.{HasCause};
-ghost use Rattle.edge_io.specs.Counting.{MakesCalls, MakesUpTo};
+ghost use Rattle.edge_io.specs.Counting.{DoesCalls, MakesCalls, MakesUpTo};
 ghost use Rattle.edge_io.specs.Disk.{IsTold};
 ghost use Rattle.edge_io.specs.Moments.{Elapses, LeavesOnly};
 ghost use Rattle.gate_journal.specs.Frames.{IsBeforeOrAfter, IsWithPending, IsFrame, blocks, frame_in, framed};
@@ -52,7 +52,7 @@ impl<D: Disk> Model for Journal<D> {
 }
 
 impl<D: Disk> Journal<D> {
-    ghost use Rattle.gate_journal.specs.Clearing.{IsAsBefore, IsBare, IsPartlyCleared, IsTouched, MayClear};
+    ghost use Rattle.gate_journal.specs.Clearing.{IsAsBefore, IsBare, IsLone, IsPartlyCleared, IsTouched, MayClear};
     ghost use Rattle.gate_journal.specs.Frames.{IsShut, StandsFor};
     ghost use Rattle.gate_journal.specs.Journals.{HasRoom, IsAtRest, IsShaped, Stands, Adds, RefusesFull, SetsBuffer, calls_to_mend};
 
@@ -130,15 +130,19 @@ impl<D: Disk> Journal<D> {
     }
 
     /// Closes the first gate, so that the journal has no frames, and syncs: two device calls. Where the gate is
-    /// closed already and bytes may follow it, none are made.
+    /// closed already and bytes may follow it, none are made. Where no byte can follow it, as in a journal that was
+    /// opened without frames, that stays so, and a later call closes it again.
     ///
     /// At an `Err` the journal and its frames are as before, but that a crash may leave the first gate closed; then
     /// nothing is to be appended before `close_first` or `clear` has answered Ok.
     pub fn close_first(&mut self) -> Result<(), Failed>
         ensures ok { OnOk result (MayClear D.seen self.old → IsShaped D.seen self.new [] (IsShut [])) }
-        ensures bare { OnOk result (IsBare self.new) }
+        ensures bare { OnOk result (IsBare self.new ⊎ (IsLone self.old × IsAsBefore self.old self.new)) }
+        ensures lone { IsLone self.old → IsLone self.new }
+        ensures again { IsBare self.old → IsOk result × (self.new ≡ self.old) }
+        ensures calls { OnOk result ((IsBare self.old → ⊥) → DoesCalls D.seen 2 self.old.disk self.new.disk) }
         ensures kept { OnErr result (IsAsBefore self.old self.new) }
-        ensures images { OnErr result ((c : List ℕ) → (D.seen self.new.disk).image c → IsTouched self.old (D.seen self.old.disk).image c) }
+        ensures images { (c : List ℕ) → (D.seen self.new.disk).image c → IsTouched self.old (D.seen self.old.disk).image c }
         ensures any_moment { LeavesOnly D.seen self.old.disk self.new.disk (IsTouched self.old (D.seen self.old.disk).image) }
         ensures runs { RunsOn D.seen self.old.disk self.new.disk }
         ensures memory { OnErr result (StarvesUnarmed D.seen self.old.disk self.new.disk) }
@@ -148,9 +152,12 @@ impl<D: Disk> Journal<D> {
     }
 
     /// Takes all frames away: closes the first gate as `close_first` does, and cuts off what follows it, with a sync
-    /// behind each. At Ok the journal has no frames and can be written anew.
+    /// behind each: two or four device calls. At Ok the journal has no frames and can be written anew.
     pub fn clear(&mut self) -> Result<(), Failed>
         ensures ok { OnOk result (MayClear D.seen self.old → IsAtRest D.seen self.new []) }
+        ensures lone { IsLone self.old → IsLone self.new }
+        ensures calls { OnOk result ((IsBare self.old → DoesCalls D.seen 2 self.old.disk self.new.disk)
+            × ((IsBare self.old → ⊥) → DoesCalls D.seen 4 self.old.disk self.new.disk)) }
         ensures failed { OnErr result (MayClear D.seen self.old → IsPartlyCleared D.seen self.old self.new) }
         ensures any_moment { MayClear D.seen self.old →
             LeavesOnly D.seen self.old.disk self.new.disk (λ c. IsTouched self.old (D.seen self.old.disk).image c ⊎ StandsFor c []) }

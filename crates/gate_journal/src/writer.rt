@@ -4,6 +4,7 @@ ghost use Rattle.std.specs.declared.option.Option.{Option};
 ghost use Rattle.edge_io.specs.Armed.{RunsOn};
 ghost use Rattle.edge_io.specs.Causes.{HasCause};
 ghost use Rattle.edge_io.specs.Counting.{DoesCalls, FailsInCalls};
+ghost use Rattle.edge_io.specs.Disk.{Follows, UnfinishedCut};
 ghost use Rattle.edge_io.specs.Moments.{LeavesOnly};
 ghost use Rattle.gate_journal.specs.Frames.{StandsFor, IsBeforeOrAfter, IsWithPending, IsFrame, IsRest, IsShut, IsHeld, IsAjar, framed, text_of};
 
@@ -59,7 +60,6 @@ impl<D: Disk> Writer<D> {
 
     // Cuts off what stands behind the closed gate.
     pub fn cut_behind(&mut self) -> Result<(), Failed>
-        requires behind { self.old.mending ≡ Mending.Behind }
         requires room { HasRoom D.seen self.old }
         ensures ok { OnOk result ((frames : List (List ℕ)) → IsShaped D.seen self.old frames (IsShut frames) →
             IsShaped D.seen self.new frames (IsRest frames)) }
@@ -67,7 +67,8 @@ impl<D: Disk> Writer<D> {
         ensures any_moment { (frames : List (List ℕ)) → IsShaped D.seen self.old frames (IsShut frames) →
             LeavesOnly D.seen self.old.disk self.new.disk (λ c. StandsFor c frames) }
         ensures done { OnOk result (self.new.mending ≡ Mending.Nothing) }
-        ensures err { OnErr result (self.new.mending ≡ Mending.Behind) }
+        ensures err { OnErr result (self.new.mending ≡ self.old.mending) }
+        ensures images { Follows (UnfinishedCut self.old.end) (D.seen self.old.disk).image (D.seen self.new.disk).image }
         ensures same { (self.new.end ≡ self.old.end) × (self.new.count ≡ self.old.count) }
         ensures room_kept { HasRoom D.seen self.new }
         ensures runs { RunsOn D.seen self.old.disk self.new.disk }

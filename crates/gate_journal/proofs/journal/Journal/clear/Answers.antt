@@ -1,8 +1,9 @@
 use Rattle.std.proofs.Common.{subst, ◌⊎◌, [], OnOk, OnErr}
 use Rattle.edge_io.specs.Armed.{RunsOn, StarvesUnarmed}
 use Rattle.edge_io.specs.Causes.{HasCause}
+use Rattle.edge_io.specs.Counting.{DoesCalls}
 use Rattle.edge_io.specs.Moments.{LeavesOnly}
-use Rattle.gate_journal.specs.Clearing.{IsPartlyCleared, IsTouched, MayClear}
+use Rattle.gate_journal.specs.Clearing.{IsBare, IsLone, IsPartlyCleared, IsTouched, MayClear}
 use Rattle.gate_journal.specs.Frames.{StandsFor}
 use Rattle.gate_journal.specs.Journals.{IsAtRest}
 use Rattle.gate_journal.specs.declared.writer.Writer.{Writer}
@@ -13,6 +14,13 @@ use Rattle.gate_journal.proofs.journal.Journal.clear.Goals as goal
 pub returns-clause-ok : goal.returns-clause-ok
 returns-clause-ok g c = subst (λ (w : Writer _). OnOk c.clear.result (MayClear g.D.Disk.seen w → IsAtRest g.D.Disk.seen c.clear.new.self [])) c.self.view_is
     (on_ok_both c.clear.result _ _ _ c.clear.ensures.mended c.clear.ensures.ok (λ mended shaped may. at_rest g.D.Disk.seen c.clear.new.self [] mended (shaped may)))
+
+pub returns-clause-lone : goal.returns-clause-lone
+returns-clause-lone g c = subst (λ (w : Writer _). IsLone w → IsLone c.clear.new.self) c.self.view_is c.clear.ensures.lone
+
+pub returns-clause-calls : goal.returns-clause-calls
+returns-clause-calls g c = subst (λ (w : Writer _). OnOk c.clear.result ((IsBare w → DoesCalls g.D.Disk.seen 2 w.disk c.clear.new.self.disk)
+    × ((IsBare w → ⊥) → DoesCalls g.D.Disk.seen 4 w.disk c.clear.new.self.disk))) c.self.view_is c.clear.ensures.calls
 
 pub returns-clause-failed : goal.returns-clause-failed
 returns-clause-failed g c = subst (λ (w : Writer _). OnErr c.clear.result (MayClear g.D.Disk.seen w → IsPartlyCleared g.D.Disk.seen w c.clear.new.self))

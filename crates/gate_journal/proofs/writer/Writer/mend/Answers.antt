@@ -31,7 +31,7 @@ returns-in-Behind-clause-ok g c = on_ok_weaker c.cut_behind.result (λ cuts fram
 
 pub returns-in-Behind-clause-kept : goal.returns-in-Behind-clause-kept
 returns-in-Behind-clause-kept g c = on_err_weaker c.cut_behind.result (λ is frames pending h.
-    from_behind g.D.Disk.seen c.cut_behind.new.self _ frames pending is (c.cut_behind.ensures.kept frames (at_mending g.D.Disk.seen c.args.self.now _ _ frames pending c.in-Behind.is h))) c.cut_behind.ensures.err
+    from_behind g.D.Disk.seen c.cut_behind.new.self _ frames pending (is ∙ c.in-Behind.is) (c.cut_behind.ensures.kept frames (at_mending g.D.Disk.seen c.args.self.now _ _ frames pending c.in-Behind.is h))) c.cut_behind.ensures.err
 
 pub returns-in-Behind-clause-any_moment : goal.returns-in-Behind-clause-any_moment
 returns-in-Behind-clause-any_moment g c = λ frames pending h.
@@ -85,7 +85,7 @@ returns-in_ok-close_gate-in-Gate-clause-ok g c = on_ok_weaker c.cut_behind-in-Ga
 pub returns-in_ok-close_gate-in-Gate-clause-kept : goal.returns-in_ok-close_gate-in-Gate-clause-kept
 returns-in_ok-close_gate-in-Gate-clause-kept g c = on_err_weaker c.cut_behind-in-Gate.result (λ is frames pending h.
     let s = at_gate g.D.Disk.seen c.args.self.now _ frames pending c.in-Gate.is h in
-    from_behind g.D.Disk.seen c.cut_behind-in-Gate.new.self _ frames pending is (c.cut_behind-in-Gate.ensures.kept frames (c.in_ok-close_gate-in-Gate.ensures.ok frames s.0 s.3))) c.cut_behind-in-Gate.ensures.err
+    from_behind g.D.Disk.seen c.cut_behind-in-Gate.new.self _ frames pending (is ∙ c.in_ok-close_gate-in-Gate.ensures.done) (c.cut_behind-in-Gate.ensures.kept frames (c.in_ok-close_gate-in-Gate.ensures.ok frames s.0 s.3))) c.cut_behind-in-Gate.ensures.err
 
 pub returns-in_ok-close_gate-in-Gate-clause-any_moment : goal.returns-in_ok-close_gate-in-Gate-clause-any_moment
 returns-in_ok-close_gate-in-Gate-clause-any_moment g c = λ frames pending h.
