@@ -2,7 +2,9 @@ pub mod Cursors
 pub mod Formats
 pub mod Grammar
 pub mod Laws
+pub mod Old
 pub mod Reading
 pub mod Sound
 pub mod Spots
+pub mod Versions
 pub mod Writing

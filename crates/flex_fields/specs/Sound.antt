@@ -2,4 +2,6 @@
 pub mod Counted
 pub mod Fields
 pub mod Limits
+pub mod Old
+pub mod Parts
 pub mod Readers

@@ -43,3 +43,7 @@ nullable_bytes f (Some x) = f x
 -- the number of elements plus one, and the elements
 abbrev pub array_bytes : {A : Type 0} → (A → List ℕ) → List A → List ℕ
 array_bytes f xs = uvarint_bytes (length xs + 1) ++ flat_map f xs
+
+-- one tagged field behind the number of them: tag 2 with the bytes aa bb is 01 02 02 aa bb
+abbrev pub one_tag_bytes : ℕ → List ℕ → List ℕ
+one_tag_bytes tag inner = uvarint_bytes 1 ++ (uvarint_bytes tag ++ (uvarint_bytes (length inner) ++ inner))

@@ -22,7 +22,7 @@ use uuid::Uuid;
 /// strings and bytes take memory, and they answer `NoMemory` only where the field stands.
 #[derive(Drop)]
 pub struct Cursor<'a> {
-    at: Spot<'a>,
+    pub(crate) at: Spot<'a>,
 }
 
 impl<'a> Model for Cursor<'a> {

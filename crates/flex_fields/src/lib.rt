@@ -9,11 +9,17 @@ mod items;
 mod laws;
 mod lengths;
 mod numbers;
+mod old;
+mod old_cursor;
+mod old_out;
 mod out;
 mod pair;
 mod put;
 mod spot;
 mod text;
+mod version;
+mod versioned;
+mod versioned_fields;
 mod wire;
 
 pub use bytes::Bytes;
@@ -28,6 +34,11 @@ pub use out::Out;
 pub use pair::take_fields;
 pub use put::{Put, put_fields};
 pub use text::{Text, as_text};
+pub use version::Version;
+pub use versioned::{
+    Versioned, put_array_at, put_end, put_null_array_at, put_where, read_whole_at, take_array_at,
+    take_end, take_null_array_at, take_where, write_whole_at,
+};
 pub use wire::{
     Wire, put_array, put_many, put_null_array, read_front, read_whole, stand_for_one, take_array,
     take_many, take_null_array, write_whole,

@@ -19,7 +19,7 @@ use uuid::Uuid;
 /// of its own.
 #[derive(Drop)]
 pub struct Out {
-    bytes: Vec<u8>,
+    pub(crate) bytes: Vec<u8>,
 }
 
 impl Model for Out {

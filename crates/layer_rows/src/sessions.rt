@@ -11,7 +11,7 @@ use share_model::{Name, Reset};
 use share_session::{PlanStep, Purpose, SessionFault, Sessions, VisitPlan};
 use std::alloc::Global;
 use std::io;
-use topic_conf::{Config, Topic, TopicList};
+use topic_conf::{Config, Topic, TopicList, Versions};
 use uuid::Uuid;
 
 /// The topic of 64 partitions.
@@ -28,7 +28,15 @@ fn hosted(alloc: Global) -> io::Result<Option<Config>> {
         },
     ]?;
     match TopicList::new(topics) {
-        Some(list) => Ok(Some(Config::new(list, Reset::Earliest, 30000, 5, host, 9092))),
+        Some(list) => Ok(Some(Config::new(
+            list,
+            Reset::Earliest,
+            30000,
+            5,
+            host,
+            9092,
+            Versions::Exact,
+        ))),
         None => Ok(None),
     }
 }

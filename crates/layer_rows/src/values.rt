@@ -5,7 +5,7 @@ use share_model::{Key, Name, Reset, RowState};
 use std::alloc::Global;
 use std::cmp::Ordering;
 use std::io;
-use topic_conf::{Config, Topic, TopicList};
+use topic_conf::{Config, Topic, TopicList, Versions};
 use uuid::Uuid;
 
 /// The checksum of bytes.
@@ -80,7 +80,15 @@ fn orders_and_audit(alloc: Global) -> io::Result<Option<Config>> {
     };
     let topics = vec![in alloc; topic_of(orders, 3, 1), topic_of(audit, 1, 2)]?;
     match TopicList::new(topics) {
-        Some(list) => Ok(Some(Config::new(list, Reset::Earliest, 30000, 5, host, 9092))),
+        Some(list) => Ok(Some(Config::new(
+            list,
+            Reset::Earliest,
+            30000,
+            5,
+            host,
+            9092,
+            Versions::Exact,
+        ))),
         None => Ok(None),
     }
 }

@@ -4,6 +4,7 @@ ghost use Rattle.topic_conf.specs.Configs.{IsLockTime, IsLimit};
 
 use crate::places::{partition_at_shard, place_by_id, place_by_name, shard_at, shard_named};
 use crate::topic::{Topic, TopicList};
+use crate::versions::Versions;
 use share_model::{Name, Reset};
 use std::marker::Model;
 use uuid::Uuid;
@@ -15,6 +16,7 @@ use uuid::Uuid;
 /// - `lock_ms` is how long an acquisition lock lasts, 1 to 3600000 milliseconds.
 /// - `limit` is the delivery count at which a released record is archived, 2 to 10.
 /// - `host` and `port` are what clients are told to connect to.
+/// - `versions` says which versions of the calls are served.
 ///
 /// A contract sees the record of these parts.
 #[derive(Drop)]
@@ -25,6 +27,7 @@ pub struct Config {
     limit: u16,
     host: Name,
     port: u16,
+    versions: Versions,
 }
 
 impl Model for Config {
@@ -33,7 +36,7 @@ impl Model for Config {
 
     ghost Value = { ConfigParts };
 
-    ghost view = { λ c. record { topics = c.topics; reset = c.reset; lock_ms = c.lock_ms; limit = c.limit; host = c.host; port = c.port } };
+    ghost view = { λ c. record { topics = c.topics; reset = c.reset; lock_ms = c.lock_ms; limit = c.limit; host = c.host; port = c.port; versions = c.versions } };
 
     ghost invariant = { λ c. IsLockTime c.lock_ms × IsLimit c.limit × (c.port < 65536) };
 }
@@ -47,10 +50,11 @@ impl Config {
         limit: u16,
         host: Name,
         port: u16,
+        versions: Versions,
     ) -> Config
         requires lock_time { IsLockTime lock_ms }
         requires limit { IsLimit limit }
-        ensures { result ≡ record { topics = topics; reset = reset; lock_ms = lock_ms; limit = limit; host = host; port = port } }
+        ensures { result ≡ record { topics = topics; reset = reset; lock_ms = lock_ms; limit = limit; host = host; port = port; versions = versions } }
     {
         Config {
             topics,
@@ -59,6 +63,7 @@ impl Config {
             limit,
             host,
             port,
+            versions,
         }
     }
 
@@ -105,6 +110,13 @@ impl Config {
         ensures { result ≡ self.now.port }
     {
         self.port
+    }
+
+    /// Which versions of the calls are served.
+    pub fn versions(&self) -> Versions
+        ensures { result ≡ self.now.versions }
+    {
+        self.versions
     }
 
     /// Where the topic of this name stands among the topics, counted from 0. `None` where it isn't hosted.

@@ -7,9 +7,11 @@ mod config;
 mod laws;
 mod places;
 mod topic;
+mod versions;
 
 pub use config::Config;
 pub use laws::{
     each_partition_has_disks, each_shard_has_its_partition, each_shard_is_of_one_partition,
 };
 pub use topic::{Topic, TopicList};
+pub use versions::Versions;
