@@ -9,8 +9,8 @@ use Rattle.std.proofs.lemmas.Str.{IsUtf8-from_ascii}
 use Rattle.std.proofs.lemmas.Str.Ascii.{IsAscii-from_all}
 use Rattle.std.proofs.lemmas.Str.Pattern.{IsSplitOnceResult, split_after, split_parts}
 use Rattle.edge_io.specs.declared.name.DiskPlace.{DiskPlace}
-use Rattle.edge_io.specs.declared.name.DiskPlace.TheVariants.{Log, StateA, StateB}
-use Rattle.edge_io.specs.Names.{is_topic_byte, IsTopicName, number_word, disk_word, hosted_name, IsHostedName, IsNotHosted, IsNoNumberWord, IsNoDiskWord, IsDiskName}
+use Rattle.edge_io.specs.declared.name.DiskPlace.TheVariants.{Log, LogB, StateA, StateB}
+use Rattle.edge_io.specs.Names.{is_topic_byte, IsTopicName, number_word, disk_word, hosted_name, IsTextHosted, IsNotHosted, IsNoNumberWord, IsNoDiskWord, IsTextPlace, IsDiskName}
 use denote.Ref.{Bor}
 
 -- from '-' to 'z'
@@ -33,6 +33,7 @@ number_bytes n lt = name_bytes_of (number_word n) (grind (arith, nat_tests))
 
 place_bytes : (place : DiskPlace) → All IsNameByte (disk_word place)
 place_bytes Log = name_bytes_of (codes "log") refl
+place_bytes LogB = name_bytes_of (codes "log-b") refl
 place_bytes StateA = name_bytes_of (codes "state-a") refl
 place_bytes StateB = name_bytes_of (codes "state-b") refl
 
@@ -56,6 +57,7 @@ number_short n lt = grind (arith, nat_tests)
 
 place_short : (place : DiskPlace) → length (disk_word place) ≤ 7
 place_short Log = omega arith
+place_short LogB = omega arith
 place_short StateA = omega arith
 place_short StateB = omega arith
 
@@ -75,7 +77,7 @@ number_no_slash : (n : ℕ) → n < 64 → (i : ℕ) → i < length (number_word
 number_no_slash n few i lt e = grind (arith, nat_tests)
 
 -- The name of a partition's disk is cut at its first two slashes.
-module _ (name : List ℕ) (h : IsHostedName name) where
+module _ (name : List ℕ) (h : IsTextHosted name) where
   first_cut : (r : Option (Bor (List ℕ) × Bor (List ℕ))) → IsSplitOnceResult 47 name r →
       MatchOption r ⊥ (λ x. (x.0.now ≡ h.0) × (x.1.now ≡ number_word h.1 ++ 47 ∷ disk_word h.2))
   first_cut r s = split_after 47 name h.0 (number_word h.1 ++ 47 ∷ disk_word h.2) r s (lit< tt) h.5 (no_slash h.0 h.3)
@@ -92,7 +94,7 @@ module _ (name : List ℕ) (topic rest : Bor (List ℕ)) (cut : IsSplitOnceResul
   no_second_cut s h = second_cut name h rest.now None s (first_cut name h (Some (topic, rest)) cut).1
 
   module _ (number word : Bor (List ℕ)) (next : IsSplitOnceResult 47 rest.now (Some (number, word))) where
-    same_parts : (h : IsHostedName name) → (topic.now ≡ h.0) × (number.now ≡ number_word h.1) × (word.now ≡ disk_word h.2)
+    same_parts : (h : IsTextHosted name) → (topic.now ≡ h.0) × (number.now ≡ number_word h.1) × (word.now ≡ disk_word h.2)
     same_parts h =
         let p = first_cut name h (Some (topic, rest)) cut in
         let q = second_cut name h rest.now (Some (number, word)) next p.1 in
@@ -102,7 +104,7 @@ module _ (name : List ℕ) (topic rest : Bor (List ℕ)) (cut : IsSplitOnceResul
     other_number none h = none h.1 h.4 (same_parts h).1
 
     pub other_place : IsNoDiskWord word.now → IsNotHosted name
-    other_place none h = none h.2 (same_parts h).2
+    other_place none h = none h.2 h.6 (same_parts h).2
 
     -- what is cut so is the name of these parts
     parts_of : (n : ℕ) (place : DiskPlace) → number.now ≡ number_word n → word.now ≡ disk_word place → name ≡ hosted_name topic.now n place
@@ -117,3 +119,8 @@ module _ (name : List ℕ) (topic rest : Bor (List ℕ)) (cut : IsSplitOnceResul
         MatchOption r (IsNotHosted name) (λ x. x ≡ name)
     hosted_of n place None few e f some exact = λ h. false≢true (exact.1 (subst IsTopicName (sym (same_parts h).0) h.3, few))
     hosted_of n place (Some x) few e f some exact = some ∙ sym (parts_of n place e f)
+
+    pub named_of : (n : ℕ) (place : DiskPlace) (r : Option (List ℕ)) → n < 64 → IsTextPlace place → IfSome r (λ x. x ≡ hosted_name topic.now n place) →
+        (IsSome r ↔ (IsTopicName topic.now × (n < 64))) → IfSome r IsTextHosted
+    named_of n place None few is some exact = tt
+    named_of n place (Some x) few is some exact = (topic.now, n, place, (exact.0 refl).0, few, some, is)

@@ -1,11 +1,12 @@
--- The names of disks: `TOPIC/N/log`, `TOPIC/N/state-a` and `TOPIC/N/state-b` for the partitions that a broker hosts, and
--- `foreign/state-a` and `foreign/state-b` for the states of those that it doesn't. They are also the paths of their files.
--- What a topic may be named is Kafka's rule; the names of disks and the limit of 64 partitions are this project's own.
--- Worked example: `orders/0/state-a`; `..` is no topic's name, and no topic has a partition 64.
+-- The names of disks: `TOPIC/N/log`, `TOPIC/N/log-b`, `TOPIC/N/state-a` and `TOPIC/N/state-b` for the partitions that a
+-- broker hosts, and `foreign/state-a` and `foreign/state-b` for the states of those that it doesn't. They are also the
+-- paths of their files. What a topic may be named is Kafka's rule; the names of disks and the limit of 64 partitions are
+-- this project's own. Worked example: `orders/0/state-a`; `..` is no topic's name, no topic has a partition 64, and no
+-- text is read as `orders/0/log-b`.
 use Rattle.std.specs.Prelude.{◌≡◌, ◌≢◌, ◌⊎◌, ◌<◌, ◌≤◌, ◌+◌, ◌/◌, ◌%◌, ◌==◌, ◌&&◌, ◌||◌, nat_le, nat_lt}
-use Rattle.std.specs.Prelude.{if◌then◌else◌, ℕ, Bool, true, List, [], ◌∷◌, ◌++◌, length, All, codes}
+use Rattle.std.specs.Prelude.{if◌then◌else◌, ℕ, Bool, true, List, [], ⊤, ◌∷◌, ◌++◌, length, All, codes}
 use Rattle.edge_io.specs.declared.name.DiskPlace.{DiskPlace}
-use Rattle.edge_io.specs.declared.name.DiskPlace.TheVariants.{Log, StateA, StateB}
+use Rattle.edge_io.specs.declared.name.DiskPlace.TheVariants.{Log, LogB, StateA, StateB}
 
 -- a letter, a digit, '.', '_' or '-', in ASCII
 abbrev pub is_topic_byte : ℕ → Bool
@@ -29,11 +30,19 @@ IsNoNumberWord word = (n : ℕ) → n < most_partitions → word ≢ number_word
 
 abbrev pub disk_word : DiskPlace → List ℕ
 disk_word Log = codes "log"
+disk_word LogB = codes "log-b"
 disk_word StateA = codes "state-a"
 disk_word StateB = codes "state-b"
 
+-- a text may name the disk of this place: it names each but a log's second one
+abbrev pub IsTextPlace : DiskPlace → Type 0
+IsTextPlace LogB = ⊥
+IsTextPlace Log = ⊤
+IsTextPlace StateA = ⊤
+IsTextPlace StateB = ⊤
+
 abbrev pub IsNoDiskWord : List ℕ → Type 0
-IsNoDiskWord word = (place : DiskPlace) → word ≢ disk_word place
+IsNoDiskWord word = (place : DiskPlace) → IsTextPlace place → word ≢ disk_word place
 
 abbrev pub hosted_name : List ℕ → ℕ → DiskPlace → List ℕ
 hosted_name topic number place = topic ++ (codes "/" ++ (number_word number ++ (codes "/" ++ disk_word place)))
@@ -43,10 +52,20 @@ abbrev pub IsHostedName : List ℕ → Type 0
 IsHostedName name = (topic : List ℕ) × (number : ℕ) × (place : DiskPlace) ×
     IsTopicName topic × (number < most_partitions) × (name ≡ hosted_name topic number place)
 
+-- such a name that a text is read as
+abbrev pub IsTextHosted : List ℕ → Type 0
+IsTextHosted name = (topic : List ℕ) × (number : ℕ) × (place : DiskPlace) ×
+    IsTopicName topic × (number < most_partitions) × (name ≡ hosted_name topic number place) × IsTextPlace place
+
 abbrev pub IsNotHosted : List ℕ → Type 0
-IsNotHosted name = IsHostedName name → ⊥
+IsNotHosted name = IsTextHosted name → ⊥
 
 -- one of these names
 abbrev pub IsDiskName : List ℕ → Type 0
 IsDiskName name = IsHostedName name
+    ⊎ ((name ≡ codes "foreign/state-a") ⊎ (name ≡ codes "foreign/state-b"))
+
+-- one of these names that a text is read as
+abbrev pub IsTextName : List ℕ → Type 0
+IsTextName name = IsTextHosted name
     ⊎ ((name ≡ codes "foreign/state-a") ⊎ (name ≡ codes "foreign/state-b"))

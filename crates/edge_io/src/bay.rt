@@ -1,7 +1,7 @@
 ghost use Rattle.std.specs.Prelude.{◌≡◌, ◌≢◌, ◌⊎◌, ◌≤◌, ◌+◌, ◌-◌, ◌^◌, min};
-ghost use Rattle.std.specs.Prelude.{List, ℕ, true, false, is_some, IfOk, OnErr, IsErr};
+ghost use Rattle.std.specs.Prelude.{List, ℕ, true, false, is_some, IfOk, IfSome, OnErr, IsErr};
 ghost use Rattle.edge_io.specs.Causes.{HasCause};
-ghost use Rattle.edge_io.specs.Bays.{SameSlot, IsAsTold, Holds};
+ghost use Rattle.edge_io.specs.Bays.{SameSlot, IsAsTold, IsUntouched, Holds};
 ghost use Rattle.edge_io.specs.Views.{BayView};
 
 use crate::{Disk, DiskName, Failed};
@@ -19,6 +19,11 @@ pub trait Bay {
     /// Whether a call has failed for want of memory.
     fn starved(&self) -> bool
         ensures { result ≡ (seen self.now).starved };
+
+    /// Whether there is a disk of that name. One that isn't there is empty, and `take` makes it. Where it can't be
+    /// told, the answer is that there is one.
+    fn has(&self, name: &DiskName) -> bool
+        ensures { result ≡ false → IfSome ((seen self.now).disk name.now) (λ d. IsUntouched Self.D.seen d) };
 
     /// Takes a disk. At an `Err` it isn't out.
     fn take(&mut self, name: &DiskName) -> Result<Self::D, Failed>

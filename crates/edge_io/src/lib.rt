@@ -6,6 +6,7 @@
 #![tactic(auto)]
 
 mod bay;
+mod closing;
 mod copying;
 mod disk;
 mod fault;
@@ -17,6 +18,7 @@ mod streams;
 mod topic;
 
 pub use bay::Bay;
+pub use closing::CloseReason;
 pub use copying::{ReadError, read_to_end, write_all};
 pub use disk::Disk;
 pub use fault::{Armed, FaultMode};

@@ -1,10 +1,11 @@
-ghost use Rattle.std.specs.Prelude.{◌≡◌, List, Bool, ℕ, OnOk};
+ghost use Rattle.std.specs.Prelude.{◌≡◌, ◌↔◌, [], List, Bool, ℕ, OnOk, IfSome, IsTrue};
 ghost use Rattle.std.specs.declared.option.Option.{Option};
 ghost use Rattle.std.specs.Io.{ReadsAtMost, WritesAtMost};
 ghost use Rattle.std.specs.Io.KnownBytes.{Appends, ReadConsumes, WriteAppends};
 ghost use Rattle.edge_io.specs.Causes.{HasCause};
 ghost use Rattle.edge_io.specs.Streams.{AppendsFront, EndsBy, TakesSome};
 
+use crate::closing::CloseReason;
 use crate::streams::Failed;
 
 /// One connection: the bytes that its peer sends, and those that it is sent.
@@ -39,6 +40,18 @@ pub trait Link {
         ensures bytes { WriteAppends (held self.old) (held self.new) result bytes.now }
         ensures same { (left self.new ≡ left self.old) × (ended self.new ≡ ended self.old) }
         ensures cause { HasCause (faults self.old) (faults self.new) result };
+
+    /// Looks whether the peer has ended, with nothing left to be read. It takes no byte and waits for none; a link that
+    /// can't tell answers that the peer hasn't.
+    fn is_at_end(&self) -> bool
+        ensures { IfSome (left self.now) (λ bytes. IsTrue result ↔ (bytes ≡ [])) };
+
+    /// Tells why the broker closes the connection, for a person to read.
+    fn closed(&mut self, reason: CloseReason)
+        ensures left { left self.new ≡ left self.old }
+        ensures ended { ended self.new ≡ ended self.old }
+        ensures held { held self.new ≡ held self.old }
+        ensures faults { faults self.new ≡ faults self.old };
 }
 
 /// Writes all of `bytes` to a link. At an `Err` the link has taken a front of them. Nothing is read.

@@ -1,16 +1,17 @@
 ghost use Rattle.std.specs.Prelude.{◌≡◌, ◌↔◌, ◌<◌, ◌≤◌, ◌+◌, ◌++◌, IsTrue, IsSome, IfSome, IfNone, MatchOption, Some, length, codes};
 ghost use Rattle.arrayvec.specs.ArrayVec.{array_vec_len};
-ghost use Rattle.edge_io.specs.declared.name.DiskPlace.TheVariants.{Log, StateA, StateB};
+ghost use Rattle.edge_io.specs.declared.name.DiskPlace.TheVariants.{Log, LogB, StateA, StateB};
 
 use crate::topic::{disk_word, is_topic_name, number_of, place_of, push, push_number};
 use arrayvec::ArrayVec;
 use std::fmt;
 use std::marker::Model;
 
-/// Which disk of a partition: that of its log, or one of the two of its state.
+/// Which disk of a partition: that of its log, a second one of its log, or one of the two of its state.
 #[derive(Clone, Copy, Debug)]
 pub enum DiskPlace {
     Log,
+    LogB,
     StateA,
     StateB,
 }
@@ -21,7 +22,8 @@ pub const MAX_PARTITIONS: u32 = 64;
 /// The longest name: 249 bytes of a topic, two digits, `state-a`, and two slashes.
 const MAX_NAME: usize = 260;
 
-/// The name of a disk: `TOPIC/N/log`, `TOPIC/N/state-a`, `TOPIC/N/state-b`, `foreign/state-a` or `foreign/state-b`.
+/// The name of a disk: `TOPIC/N/log`, `TOPIC/N/log-b`, `TOPIC/N/state-a`, `TOPIC/N/state-b`, `foreign/state-a` or
+/// `foreign/state-b`.
 ///
 /// It is also the path of the disk's file under a folder. It is kept inside the value, and takes no memory.
 #[derive(Drop)]
@@ -41,7 +43,7 @@ impl Model for DiskName {
 }
 
 impl DiskName {
-    ghost use Rattle.edge_io.specs.Names.{IsTopicName, IsDiskName, IsNotHosted, hosted_name};
+    ghost use Rattle.edge_io.specs.Names.{IsTopicName, IsDiskName, IsTextHosted, IsTextName, IsNotHosted, hosted_name};
 
     /// The name of a disk of a partition. `None` where a topic can't have this name, or the number is above 63.
     pub fn hosted(topic: &[u8], number: u32, place: DiskPlace) -> Option<DiskName>
@@ -78,10 +80,12 @@ impl DiskName {
         DiskName { text }
     }
 
-    /// The name with this text. `None` where no disk has that name.
+    /// The name with this text. `None` where no disk has that name, and where it is that of a log's second disk,
+    /// which no text names.
     pub fn parse(text: &str) -> Option<DiskName>
         ensures some { IfSome result (λ n. n ≡ text.now) }
-        ensures none { IfNone result (IsDiskName text.now → ⊥) }
+        ensures named { IfSome result (λ n. IsTextName n) }
+        ensures none { IfNone result (IsTextName text.now → ⊥) }
     {
         match text {
             "foreign/state-a" => Some(DiskName::foreign_state_a()),
@@ -92,7 +96,8 @@ impl DiskName {
 
     // The name of a disk of a partition with this text.
     fn parse_hosted(text: &str) -> Option<DiskName>
-        ensures { MatchOption result (IsNotHosted text.now) (λ n. n ≡ text.now) }
+        ensures same { MatchOption result (IsNotHosted text.now) (λ n. n ≡ text.now) }
+        ensures named { IfSome result (λ n. IsTextHosted n) }
     {
         let Some((topic, rest)) = text.split_once('/') else {
             return None;

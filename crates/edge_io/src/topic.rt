@@ -1,7 +1,7 @@
 // The parts of a disk's name, and the rule of topic names.
 ghost use Rattle.std.specs.Prelude.{◌≡◌, ◌↔◌, ◌<◌, ◌≤◌, ◌+◌, ◌++◌, IsTrue, MatchOption, length};
 ghost use Rattle.arrayvec.specs.ArrayVec.{array_vec_len};
-ghost use Rattle.edge_io.specs.Names.{is_topic_byte, IsTopicName, number_word, IsNoNumberWord, disk_word, IsNoDiskWord};
+ghost use Rattle.edge_io.specs.Names.{is_topic_byte, IsTopicName, number_word, IsNoNumberWord, disk_word, IsNoDiskWord, IsTextPlace};
 
 use crate::name::{DiskPlace, MAX_PARTITIONS};
 use arrayvec::ArrayVec;
@@ -71,9 +71,9 @@ pub fn number_of(word: &[u8]) -> Option<u32>
     None
 }
 
-// Which disk of a partition has this word.
+// Which disk of a partition a text names by this word.
 pub fn place_of(word: &str) -> Option<DiskPlace>
-    ensures { MatchOption result (IsNoDiskWord word.now) (λ place. word.now ≡ disk_word place) }
+    ensures { MatchOption result (IsNoDiskWord word.now) (λ place. (word.now ≡ disk_word place) × IsTextPlace place) }
 {
     match word {
         "log" => Some(DiskPlace::Log),
@@ -89,6 +89,7 @@ pub fn disk_word(place: DiskPlace) -> &'static [u8]
 {
     match place {
         DiskPlace::Log => b"log",
+        DiskPlace::LogB => b"log-b",
         DiskPlace::StateA => b"state-a",
         DiskPlace::StateB => b"state-b",
     }

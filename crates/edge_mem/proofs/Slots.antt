@@ -1,12 +1,13 @@
 -- The slots of a bay.
 use Rattle.std.proofs.Common.{◌≡◌, ◌≢◌, ◌⊎◌, inl, inr, ⊎_elim, refl, sym, ap, ◌∙◌, subst, ℕ, ◌<◌}
-use Rattle.std.proofs.Common.{if◌then◌else◌, Bool, true, false, List, [], ◌∷◌, ◌++◌, length, get_or, Option, Some, None, arith, rules}
+use Rattle.std.proofs.Common.{if◌then◌else◌, Bool, true, false, List, [], ◌∷◌, ◌++◌, length, get_or, Option, Some, None, is_some, arith, rules}
 use Rattle.std.proofs.Math.ListN.{set}
-use Rattle.std.proofs.lemmas.Bool.{cases_Bool}
+use Rattle.std.proofs.lemmas.Bool.{cases_Bool, false≢true}
 use Rattle.std.specs.Cmp.Lexicographic.{same_text, other_text}
 use Rattle.edge_mem.specs.Bays.{same_name, slot_index, found, behind, disk_in, out_in, taken_in, is_empty, fresh, BayState, disk_at, out_at, Taken, Put}
-use Rattle.edge_io.specs.Bays.{SameSlot}
-use Rattle.edge_mem.specs.Seen.{bay_view}
+use Rattle.edge_io.specs.Bays.{SameSlot, IsUntouched}
+use Rattle.edge_mem.proofs.Fresh.{fresh_untouched}
+use Rattle.edge_mem.specs.Seen.{bay_view, disk_view}
 use Rattle.edge_mem.specs.Past.{DiskState}
 use Rattle.edge_mem.specs.declared.bay.Slot.{Slot}
 
@@ -97,6 +98,21 @@ is_absent slots now name bytes same on e = subst (Looked slots name) (sym (e ∙
 
 pub some_slot : Slot
 some_slot = record { name = []; disk = None; count = 0 }
+
+some_index : (slots : List Slot) (name : List ℕ) (o : Option ℕ) → Looked slots name o → is_some o ≡ is_some (found slots name)
+some_index slots name None none = sym (ap is_some none)
+some_index slots name (Some n) at = sym (ap is_some (at.is some_slot))
+
+-- whether there is a slot for the name's bytes
+pub is_there : (slots now : List Slot) (name bytes : List ℕ) (o : Option ℕ) → now ≡ slots → bytes ≡ name → o ≡ slot_index now bytes
+    → is_some o ≡ is_some (found slots name)
+is_there slots now name bytes o same on e = ap is_some (e ∙ ap (λ (l : List Slot). slot_index l bytes) same ∙ ap (slot_index slots) on)
+    ∙ some_index slots name (slot_index slots name) (looked slots name)
+
+-- a name without a slot has a disk that is untouched
+pub untouched : (o : Option Slot) → is_some o ≡ false → IsUntouched disk_view (disk_in o)
+untouched None none = fresh_untouched
+untouched (Some s) none = absurd (false≢true (sym none))
 
 abbrev pub Same : List Slot → List Slot → List ℕ → Type 0
 Same old new m = (disk_in (found new m) ≡ disk_in (found old m)) × (out_in (found new m) ≡ out_in (found old m))

@@ -1,7 +1,7 @@
 ghost use Rattle.std.specs.Prelude.{◌≡◌, ◌≢◌, ◌⊎◌, ◌≤◌, ◌<◌, ◌+◌, ◌-◌, ◌^◌, ◌++◌, ◌∷◌};
 ghost use Rattle.std.specs.Prelude.{[], min, ℕ, List, Bool, true, false};
 ghost use Rattle.std.specs.Prelude.{Some, None, is_some, IfSome, IfOk, OnErr, IsErr, Contains, length, slice_index_or};
-ghost use Rattle.edge_io.specs.Bays.{SameSlot, IsAsTold, Holds, IsSound};
+ghost use Rattle.edge_io.specs.Bays.{SameSlot, IsAsTold, IsUntouched, Holds, IsSound};
 ghost use Rattle.edge_io.specs.Causes.{CountsFault, FailsBy, HasCause, raised};
 ghost use Rattle.edge_mem.specs.Bays.{slot_index, found, disk_at, out_at, taken_at, is_empty, fresh, Taken, Put};
 ghost use Rattle.edge_mem.specs.Seen.{bay_view, disk_view};
@@ -145,6 +145,15 @@ impl Bay for MemBay {
 
     fn starved(&self) -> bool {
         self.starved
+    }
+
+    fn has(&self, name: &DiskName) -> bool
+        ensures empty { result ≡ false → IfSome (Some (disk_at self.now name.now)) (λ d. IsUntouched disk_view d) }
+
+        // A disk is there from the first `take` on.
+        ensures there { result ≡ is_some (found self.now.slots name.now) }
+    {
+        position(&self.slots, name.as_bytes()).is_some()
     }
 
     fn take(&mut self, name: &DiskName) -> Result<MemDisk, Failed>

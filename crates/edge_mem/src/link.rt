@@ -1,4 +1,4 @@
-ghost use Rattle.std.specs.Prelude.{◌≡◌, ◌+◌, Some};
+ghost use Rattle.std.specs.Prelude.{◌≡◌, ◌↔◌, ◌+◌, [], Some, IfSome, IsTrue};
 ghost use Rattle.std.specs.Io.{ReadsAtMost, WritesAtMost};
 ghost use Rattle.std.specs.Io.KnownBytes.{ReadConsumes, WriteAppends};
 ghost use Rattle.edge_io.specs.Causes.{HasCause};
@@ -7,7 +7,7 @@ ghost use Rattle.edge_mem.specs.Streams.{GivesBytes, TakesBytes};
 
 use crate::sink::MemSink;
 use crate::source::MemSource;
-use edge_io::{Failed, Link, Sink, Source};
+use edge_io::{CloseReason, Failed, Link, Sink, Source};
 use std::marker::Model;
 
 /// A link in memory: a source has what the peer sends, and a sink keeps what it is sent. Each of their calls fails
@@ -71,4 +71,14 @@ impl Link for MemLink {
     {
         self.sink.write(bytes)
     }
+
+    fn is_at_end(&self) -> bool
+        ensures { IfSome (Some self.now.source.left) (λ bytes. IsTrue result ↔ (bytes ≡ [])) }
+    {
+        self.source.is_at_end()
+    }
+
+    fn closed(&mut self, _reason: CloseReason)
+        ensures { self.new ≡ self.old }
+    {}
 }

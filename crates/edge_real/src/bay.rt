@@ -7,7 +7,7 @@ ghost use Rattle.edge_real.specs.Seen.{folder_view};
 
 use crate::fault::{FolderFault, FolderPart, SystemCall, SystemFault};
 use crate::file::FileDisk;
-use crate::opening::{make_folders, open_locked};
+use crate::opening::{make_folders, open_locked, path_of};
 use crate::slots::{Slot, set_in, set_out, take_kept};
 use crate::system::Folders;
 use edge_io::{Bay, Disk, DiskName, Failed};
@@ -147,6 +147,13 @@ impl<S: Folders> Bay for FolderBay<S> {
 
     fn starved(&self) -> bool {
         self.starved
+    }
+
+    fn has(&self, name: &DiskName) -> bool {
+        match path_of(self.alloc, &self.folder, name.as_str()) {
+            Ok(path) => self.system.has_file(&path).unwrap_or(true),
+            Err(_) => true,
+        }
     }
 
     fn take(&mut self, name: &DiskName) -> Result<FileDisk<S::File>, Failed>

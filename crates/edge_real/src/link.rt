@@ -6,22 +6,25 @@ ghost use Rattle.edge_io.specs.Streams.{EndsBy, TakesSome};
 use crate::fault::{SystemCall, SystemFault};
 use crate::notices::SocketNotices;
 use crate::streams::{is_end, read_retrying, write_some};
-use edge_io::{Failed, Link};
+use edge_io::{CloseReason, Failed, Link};
 use std::io;
-use std::io::{Read, Write};
+use std::io::{ErrorKind, Read, Write};
 use std::marker::Model;
-use std::net::SocketAddr;
+use std::net::{OpenStream, SocketAddr};
 
 /// A link over a stream, as a TCP socket. It tells no bytes.
 ///
-/// A call that a signal interrupts is tried again; a write that takes nothing of a piece is a fault. Each fault is
-/// told with the peer's address, and so is the drop of a link that has neither ended nor had a fault.
+/// A call that a signal interrupts is tried again; a write that takes nothing of a piece is a fault. Where no byte comes
+/// within the stream's timeout for reads, the link has ended, as if its peer had. Each fault is told with the peer's
+/// address, and so are such an end, why the broker closes the connection, and the drop of a link of which nothing was
+/// told and which hasn't ended.
 pub struct TcpLink<S, N: SocketNotices> {
     stream: S,
     peer: SocketAddr,
     notices: N,
     ended: bool,
     faults: u64,
+    is_told: bool,
 }
 
 impl<S, N: SocketNotices> Model for TcpLink<S, N> {
@@ -43,6 +46,7 @@ impl<S, N: SocketNotices> TcpLink<S, N> {
             notices,
             ended: false,
             faults: 0,
+            is_told: false,
         }
     }
 
@@ -54,8 +58,8 @@ impl<S, N: SocketNotices> TcpLink<S, N> {
 
 impl<S: Drop, N: SocketNotices + Drop> Drop for TcpLink<S, N> {
     fn drop(self) {
-        if !self.ended && self.faults == 0 {
-            self.notices.closed(self.peer);
+        if !self.ended && self.faults == 0 && !self.is_told {
+            self.notices.closed(self.peer, None);
         }
         let TcpLink {
             stream: _stream,
@@ -63,11 +67,37 @@ impl<S: Drop, N: SocketNotices + Drop> Drop for TcpLink<S, N> {
             notices: _notices,
             ended: _,
             faults: _,
+            is_told: _,
         } = self;
     }
 }
 
-impl<S: Read + Write, N: SocketNotices> Link for TcpLink<S, N> {
+// Whether this fault of a look says that the connection is no more.
+fn is_gone(error: &io::Error) -> bool {
+    matches!(
+        error.kind(),
+        ErrorKind::ConnectionReset
+            | ErrorKind::ConnectionAborted
+            | ErrorKind::NotConnected
+            | ErrorKind::BrokenPipe
+            | ErrorKind::TimedOut
+    )
+}
+
+// Whether the peer of a stream has ended, with nothing left to be read. It doesn't wait.
+fn has_ended<S: OpenStream>(stream: &S) -> bool {
+    if stream.set_nonblocking(true).is_err() {
+        return false;
+    }
+    let found = stream.peek(&mut [0]);
+    let _ = stream.set_nonblocking(false);
+    match found {
+        Ok(count) => count == 0,
+        Err(error) => is_gone(&error),
+    }
+}
+
+impl<S: Read + Write + OpenStream, N: SocketNotices> Link for TcpLink<S, N> {
     ghost left = { λ _. None };
 
     ghost ended = { λ l. l.ended };
@@ -86,6 +116,11 @@ impl<S: Read + Write, N: SocketNotices> Link for TcpLink<S, N> {
             Ok(count) => {
                 self.ended = self.ended | is_end(count, into);
                 Ok(count)
+            }
+            Err(error) if error.kind() == ErrorKind::WouldBlock => {
+                self.notices.idle(self.peer);
+                self.ended = self.ended | is_end(0, into);
+                Ok(0)
             }
             Err(error) => {
                 self.tell(SystemCall::Read, error);
@@ -110,5 +145,16 @@ impl<S: Read + Write, N: SocketNotices> Link for TcpLink<S, N> {
                 Err(Failed)
             }
         }
+    }
+
+    fn is_at_end(&self) -> bool {
+        has_ended(&self.stream)
+    }
+
+    fn closed(&mut self, reason: CloseReason)
+        ensures { self.new ≡ self.old }
+    {
+        self.notices.closed(self.peer, Some(reason));
+        self.is_told = true;
     }
 }

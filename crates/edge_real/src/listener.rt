@@ -15,12 +15,14 @@ use std::{io, thread};
 /// The links that come to a TCP socket. More may always come.
 ///
 /// The first `next` binds the socket; where that fails, the next one tries again. A fault of accepting that passes,
-/// as a peer that is gone again and no descriptor that is free, is told, and after a pause it is tried again.
+/// as a peer that is gone again and no descriptor that is free, is told, and after a pause it is tried again. A link ends
+/// once it has waited for a byte as long as it may.
 #[derive(Drop)]
 pub struct TcpLinks<R: Net, N> {
     rt: R,
     host: String,
     port: u16,
+    idle: Option<Duration>,
     listener: Option<R::Listener>,
     notices: N,
     given: u64,
@@ -78,14 +80,15 @@ fn accept<R: Clock, L: OpenListener, N: SocketNotices>(
 
 impl<R: Net, N: SocketNotices> TcpLinks<R, N> {
     /// The links that come to this host's address and port. Nothing is asked of the system yet. The port 0 stands for
-    /// one that the system chooses.
-    pub fn new(rt: R, host: String, port: u16, notices: N) -> TcpLinks<R, N>
+    /// one that the system chooses. A link waits so long for a byte at most, and for ever where no time is given.
+    pub fn new(rt: R, host: String, port: u16, idle: Option<Duration>, notices: N) -> TcpLinks<R, N>
         ensures { result ≡ record { given = 0; faults = 0 } }
     {
         TcpLinks {
             rt,
             host,
             port,
+            idle,
             listener: None,
             notices,
             given: 0,
@@ -108,7 +111,8 @@ impl<R: Net, N: SocketNotices> TcpLinks<R, N> {
 }
 
 impl<R: Net + Clock, N: SocketNotices> TcpLinks<R, N> {
-    // The next link. It sends each reply at once, without Nagle's delay; where that can't be had, it goes without.
+    // The next link. It sends each reply at once, without Nagle's delay, and waits for a byte as long as it may; where
+    // either can't be had, it goes without.
     fn accept(&mut self) -> Result<TcpLink<R::Stream, N>, SystemFault>
         ensures { self.new ≡ self.old }
     {
@@ -127,6 +131,7 @@ impl<R: Net + Clock, N: SocketNotices> TcpLinks<R, N> {
         match accept(&self.rt, listener, &self.notices) {
             Ok((stream, peer)) => {
                 let _ = stream.set_nodelay(true);
+                let _ = stream.set_read_timeout(self.idle);
                 Ok(TcpLink::new(stream, peer, self.notices.for_link()))
             }
             Err(error) => Err(SystemFault {

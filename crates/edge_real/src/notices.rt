@@ -1,4 +1,5 @@
 use crate::fault::SystemFault;
+use edge_io::CloseReason;
 use std::net::SocketAddr;
 
 /// What is told of the sockets of a server as it goes, for a program to print. Nothing that is served depends on it.
@@ -12,8 +13,12 @@ pub trait SocketNotices: Sized {
     /// A call on the socket of this peer was not done.
     fn failed(&self, peer: SocketAddr, fault: SystemFault);
 
-    /// This peer's socket is closed, which the peer hadn't ended and on which no call has failed.
-    fn closed(&self, peer: SocketAddr);
+    /// No byte came from this peer for as long as one is waited for, and its socket is closed.
+    fn idle(&self, peer: SocketAddr);
+
+    /// The broker closes this peer's socket, which the peer hadn't ended and on which no call has failed: for this
+    /// reason, or unserved where there is none.
+    fn closed(&self, peer: SocketAddr, reason: Option<CloseReason>);
 
     /// What a link tells its faults by. The link may go to another thread.
     fn for_link(&self) -> Self;
@@ -30,7 +35,9 @@ impl SocketNotices for NoNotices {
 
     fn failed(&self, _peer: SocketAddr, _fault: SystemFault) {}
 
-    fn closed(&self, _peer: SocketAddr) {}
+    fn idle(&self, _peer: SocketAddr) {}
+
+    fn closed(&self, _peer: SocketAddr, _reason: Option<CloseReason>) {}
 
     fn for_link(&self) -> NoNotices {
         NoNotices

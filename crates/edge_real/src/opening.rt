@@ -71,8 +71,8 @@ pub fn open_locked<S: Folders>(
 /// The file that is locked while a folder is open. No topic has this name.
 pub const LOCK_NAME: &str = "lock~";
 
-// The path of a name in a folder.
-fn path_of(alloc: Global, folder: &str, name: &str) -> io::Result<String> {
+/// The path of a name in a folder.
+pub fn path_of(alloc: Global, folder: &str, name: &str) -> io::Result<String> {
     Ok(format!(in alloc; "{folder}/{name}")?)
 }
 

@@ -68,6 +68,9 @@ pub trait Folders: Drop {
     /// Opens a file to read and write it, and makes it where it is missing.
     fn open_file(&mut self, path: &str) -> io::Result<Self::File>;
 
+    /// Whether there is a file of this path, which isn't made.
+    fn has_file(&self, path: &str) -> io::Result<bool>;
+
     /// Brings the names in a folder to the device.
     fn sync_folder(&mut self, path: &str) -> io::Result<()>;
 }
@@ -98,6 +101,10 @@ impl<R: Files<File = File>> Folders for SystemFolders<'_, R> {
             .write(true)
             .create(true)
             .open(self.rt, path)
+    }
+
+    fn has_file(&self, path: &str) -> io::Result<bool> {
+        fs::exists(self.rt, path)
     }
 
     fn sync_folder(&mut self, path: &str) -> io::Result<()> {
