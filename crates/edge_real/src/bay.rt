@@ -8,7 +8,7 @@ ghost use Rattle.edge_real.specs.Seen.{folder_view};
 use crate::fault::{FolderFault, FolderPart, SystemCall, SystemFault};
 use crate::file::FileDisk;
 use crate::opening::{make_folders, open_locked, path_of};
-use crate::slots::{Slot, set_in, set_out, take_kept};
+use crate::slots::{Slot, kept_len, set_in, set_out, take_kept};
 use crate::system::Folders;
 use edge_io::{Bay, Disk, DiskName, Failed};
 use std::alloc::Global;
@@ -62,6 +62,11 @@ impl<S: Folders> FolderBay<S> {
     /// What makes the calls.
     pub fn system(&self) -> &S {
         &self.system
+    }
+
+    /// How long the disk of that name is, where it was put back.
+    pub fn kept_len(&self, name: &DiskName) -> Option<u64> {
+        kept_len(&self.slots, name)
     }
 
     /// The last fault of the bay or of a disk that was put back.

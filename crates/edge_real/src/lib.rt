@@ -9,10 +9,12 @@
 
 mod bay;
 mod clock;
+mod evidence;
 mod fault;
 mod file;
 mod link;
 mod listener;
+mod look;
 mod notices;
 mod opening;
 mod slots;
@@ -22,10 +24,12 @@ mod system;
 
 pub use bay::FolderBay;
 pub use clock::SystemClock;
+pub use evidence::{KeepFault, Kept, keep_behind, lacks_bytes, seen_behind};
 pub use fault::{FolderFault, FolderPart, SystemCall, SystemFault};
 pub use file::FileDisk;
 pub use link::TcpLink;
 pub use listener::TcpLinks;
+pub use look::{LookFile, LookFolders};
 pub use notices::{NoNotices, SocketNotices};
 pub use slots::Slot;
 pub use spawner::ThreadSpawner;

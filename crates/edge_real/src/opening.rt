@@ -24,8 +24,8 @@ fn folder_before(path: &str, end: usize) -> Option<&str> {
     }
 }
 
-// The folder in which a path stands.
-fn parent(path: &str) -> &str {
+/// The folder in which a path stands.
+pub fn parent(path: &str) -> &str {
     match path.rsplit_once('/') {
         None => ".",
         Some(("", _)) => "/",

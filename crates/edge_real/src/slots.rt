@@ -78,6 +78,15 @@ fn return_at<F: OpenedFile>(slots: &mut Vec<Slot<F>>, at: usize, disk: FileDisk<
     rose
 }
 
+/// The length of the disk of that name, where it was put back.
+pub fn kept_len<F: OpenedFile>(slots: &[Slot<F>], name: &DiskName) -> Option<u64> {
+    let slot = &slots[position(slots, name.as_bytes())?];
+    match &slot.disk {
+        Some(disk) => Some(disk.len()),
+        None => None,
+    }
+}
+
 /// The disk of that name, where it was put back. It is out of its slot then.
 pub fn take_kept<F: Drop>(slots: &mut Vec<Slot<F>>, name: &DiskName) -> Option<FileDisk<F>>
     ensures is_named { AreNamed slots.old.items → IfSome result (λ d. d.name ≡ name.now) }
