@@ -11,8 +11,8 @@ use Rattle.edge_io.specs.declared.fault.FaultMode.TheVariants.{Once, Torn, Dead}
 use Rattle.edge_io.proofs.Names.{name_short}
 use Rattle.session_script.specs.declared.event.Event.{Event}
 use Rattle.session_script.specs.declared.event.Event.TheVariants.{Open, Bytes, Close, Step, Expire, Tick, Arm, Power}
-use Rattle.session_script.specs.Script.{words_of, mode_word, line_of, IsEvent, end_line, longest, HasNoEvent, IsRefused}
-use Rattle.session_script.specs.Lines.{HasNone, IsLine, IsUnfinished, SaysNothing, longest_line}
+use Rattle.session_script.specs.Script.{words_of, mode_word, line_of, IsEvent, end_line, longest, longest_line, HasNoEvent, HasNoMalformed, IsRefused}
+use Rattle.session_script.specs.Lines.{HasNone, IsLine, IsUnfinished, SaysNothing}
 use Rattle.session_script.proofs.Cuts.{one_cut, none_append, no_feed, lacks_none, topic_lacks, disk_lacks}
 use Rattle.session_script.proofs.Sayings.{same_head, same_rest}
 use Rattle.session_script.proofs.Hexes.{hex_no_feed}
@@ -205,8 +205,10 @@ end_no_event place event more is e =
     let same = one_cut 10 end_word (words_of event) [] more end_has_none (no_feed_words event is) (e ∙ line_then event more) in
     absurd (end_is_none event same.0)
 
-pub cut_no_event : (place : ℕ) (bytes : List ℕ) → HasNone 10 bytes → HasNoEvent place bytes
-cut_no_event place bytes h = (cut_off place bytes h).no_event
+-- the last line, and no byte more
+pub end_unbroken : (place : ℕ) (bytes rest : List ℕ) → bytes ≡ end_line ++ rest → place + 4 ≤ longest → length bytes ≤ 4 → HasNoMalformed place bytes
+end_unbroken place bytes [] e fits few = inr (e ∙ append-nil end_line, fits)
+end_unbroken place bytes (b ∷ rest) e fits few = let s : length bytes ≡ length (end_line ++ b ∷ rest) = ap length e in absurd (omega (arith, s, few))
 
 -- the same, whatever the source has left
 

@@ -9,7 +9,7 @@ use Rattle.hex.specs.Hex.{encode_lower, IsBytes}
 use Rattle.session_script.specs.declared.event.Event.{Event}
 use Rattle.edge_io.specs.Names.{IsTopicName}
 use Rattle.edge_io.specs.declared.fault.FaultMode.{FaultMode}
-use Rattle.session_script.specs.Script.{words_of, mode_word, IsEvent}
+use Rattle.session_script.specs.Script.{words_of, mode_word, IsEvent, longest_line}
 
 -- this byte isn't among them
 abbrev pub HasNone : ℕ → List ℕ → Type 0
@@ -31,10 +31,6 @@ pub record IsLine (bytes : List ℕ) (n : ℕ) : Type 0 where
 -- a line stands whole at the front, and isn't the last one
 abbrev pub HasEventLine : List ℕ → Type 0
 HasEventLine bytes = (n : ℕ) × IsLine bytes n × (take n bytes ≢ codes "end")
-
--- the longest line of an event: `bytes`, a number of ten digits, 131072 digits, two blanks and the line feed
-abbrev pub longest_line : ℕ
-longest_line = 5 + 1 + 10 + 1 + 131072 + 1
 
 -- no line stands here: the input ends before a line feed, or more bytes than a line has hold none
 abbrev pub IsUnfinished : List ℕ → Option (List ℕ) → Type 0

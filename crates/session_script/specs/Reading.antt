@@ -7,7 +7,7 @@ use Rattle.session_script.specs.declared.reader.Taken.{Taken}
 use Rattle.session_script.specs.declared.reader.Taken.TheVariants.{Event, End}
 use Rattle.session_script.specs.declared.reader.ScriptFault.{ScriptFault}
 use Rattle.session_script.specs.declared.reader.ScriptFault.TheVariants.{Malformed, Read, NoMemory}
-use Rattle.session_script.specs.Script.{line_of, end_line, IsEvent, HasNoEvent, IsRefused, longest}
+use Rattle.session_script.specs.Script.{line_of, end_line, IsEvent, HasNoMalformed, IsRefused, longest}
 use Rattle.session_script.specs.Unread.{Unread}
 
 -- the source gave some bytes, and of what was pending and of these a line was taken
@@ -29,7 +29,7 @@ abbrev pub Answers : Unread → Option (List ℕ) → Bool → Result Taken Scri
 Answers new left ended (Ok (Event event)) = IsEvent event × (new.place ≤ longest)
 Answers new left ended (Ok End) = (new.pending ≡ []) × IsAtEnd left × (ended ≡ true) × (new.place ≤ longest)
 Answers new left ended (Err (Malformed fault)) = IfSome left (λ more. IsRefused new.place (new.pending ++ more) fault)
-Answers new left ended (Err Read) = HasNoEvent new.place new.pending
+Answers new left ended (Err Read) = HasNoMalformed new.place new.pending
 Answers new left ended (Err NoMemory) = Unit {0}
 
 -- the last line stands at the front of what is pending

@@ -3,7 +3,7 @@
 -- docs/SCRIPT.md shows it.
 -- For example `bytes 7 00ff1a` brings three bytes to connection 7, and of the lines `open 1`, `opne 2`, `end` the second, at
 -- byte 7, is malformed.
-use Rattle.std.specs.Prelude.{◌≡◌, ◌<◌, ◌≤◌, ◌+◌, ◌^◌, ◌⊎◌, ℕ, List, [], ◌∷◌, ◌++◌, length, codes}
+use Rattle.std.specs.Prelude.{◌≡◌, ◌≢◌, ◌<◌, ◌≤◌, ◌+◌, ◌^◌, ◌⊎◌, ℕ, List, [], ◌∷◌, ◌++◌, length, codes}
 use Rattle.std.specs.List.{flat_map, AllByRecursion}
 use Rattle.std.specs.Fmt.{decimal}
 use Rattle.hex.specs.Hex.{encode_lower, IsBytes}
@@ -49,6 +49,10 @@ IsEvent (Power choice) = choice < 2 ^ 64
 abbrev pub end_line : List ℕ
 end_line = codes "end" ++ 10 ∷ []
 
+-- the longest line of an event: `bytes`, a number of ten digits, 131072 digits, two blanks and the line feed
+abbrev pub longest_line : ℕ
+longest_line = 5 + 1 + 10 + 1 + 131072 + 1
+
 -- a script is read up to this many bytes
 abbrev pub longest : ℕ
 longest = 2 ^ 62
@@ -67,13 +71,18 @@ IsScript text events = Begins text events end_line × (length text ≤ longest)
 abbrev pub HasNoEvent : ℕ → List ℕ → Type 0
 HasNoEvent place rest = (event : Event) (more : List ℕ) → IsEvent event → rest ≡ line_of event ++ more → longest < place + length (line_of event)
 
--- the events whose lines stand whole, one after another from the first
-abbrev pub StandWhole : List ℕ → List Event → Type 0
-StandWhole text events = (rest : List ℕ) × Begins text events rest × HasNoEvent (length (flat_map line_of events)) rest
-
 -- the last line stands at this place, and nothing behind it
 abbrev pub IsEnd : ℕ → List ℕ → Type 0
 IsEnd place rest = (rest ≡ end_line) × (place + 4 ≤ longest)
+
+-- At this place no line is malformed yet: none stands whole, and the rest isn't longer than a line may be; or it is the
+-- last line. So `opne` may still become any line that begins so, and `opne 2` with its line feed is malformed.
+abbrev pub HasNoMalformed : ℕ → List ℕ → Type 0
+HasNoMalformed place rest = (AllByRecursion (λ b. b ≢ 10) rest × (length rest ≤ longest_line)) ⊎ IsEnd place rest
+
+-- the text is the lines of these events, one after another from the first, and behind them no line that is malformed
+abbrev pub StandWhole : List ℕ → List Event → Type 0
+StandWhole text events = (rest : List ℕ) × Begins text events rest × HasNoMalformed (length (flat_map line_of events)) rest
 
 -- where the fault of such a rest is: the first byte behind the last line where that stands whole, and else the rest's first byte
 abbrev pub IsFault : ℕ → List ℕ → ℕ → Type 0

@@ -3,7 +3,7 @@ ghost use Rattle.std.specs.Io.KnownBytes.{Consumes, IsAtEnd};
 ghost use Rattle.edge_io.specs.Causes.{Rose};
 ghost use Rattle.edge_io.specs.Streams.{Gains};
 ghost use Rattle.session_script.specs.declared.reader.ScriptFault.TheVariants.{NoMemory as no_memory};
-ghost use Rattle.session_script.specs.Script.{longest};
+ghost use Rattle.session_script.specs.Script.{longest, longest_line};
 ghost use Rattle.session_script.specs.Lines.{HasEventLine, HasNone, IsLine, IsFeedFrom, IsUnfinished};
 ghost use Rattle.session_script.specs.Reading.{Takes, taken_line, Answers, EndStands};
 
@@ -206,7 +206,8 @@ impl ScriptReader {
     fn line<S: Source>(&mut self, source: &mut S) -> Result<Option<usize>, ReadError>
         ensures taken { Takes self.old self.new (S.left source.old) (S.left source.new) [] }
         ensures found { IfOk result (λ found. MatchOption found (IsUnfinished self.new.pending (S.left source.new)) (IsLine self.new.pending)) }
-        ensures read { result ≡ Err ReadError.Failed → Rose (S.faults source.old) (S.faults source.new) × HasNone 10 self.new.pending }
+        ensures read { result ≡ Err ReadError.Failed → Rose (S.faults source.old) (S.faults source.new) }
+        ensures unbroken { result ≡ Err ReadError.Failed → HasNone 10 self.new.pending × (length self.new.pending ≤ longest_line) }
         ensures later { S.faults source.old ≤ S.faults source.new }
     {
         'pieces: loop {

@@ -4,7 +4,7 @@ use Rattle.std.specs.declared.option.Option.{Option}
 use Rattle.std.specs.Io.KnownBytes.{IsAtEnd}
 use Rattle.session_script.specs.declared.event.Event.{Event}
 use Rattle.session_script.specs.declared.event.Outcome.{Outcome}
-use Rattle.session_script.specs.Script.{IsEvent, IsRefused, HasNoEvent, line_of, end_line, longest}
+use Rattle.session_script.specs.Script.{IsEvent, IsRefused, HasNoMalformed, line_of, end_line, longest}
 use Rattle.session_script.specs.Unread.{Unread}
 use Rattle.session_script.specs.Reading.{Takes}
 use Rattle.broker_model.specs.Machine.{Machine}
@@ -68,7 +68,7 @@ module _ {D : Type 0} (seen : D → DiskView) where
         → IsDone input (λ events. From first now events T (Leaves first.conf))
     done t none end le ended = reads.done input mid u v going.read (λ events. From first now events T (Leaves first.conf)) t none end le ended whole
 
-    pub cut : Took [] → HasNoEvent v.place v.pending → IsCut input (λ events. From first now events T (Leaves first.conf))
+    pub cut : Took [] → HasNoMalformed v.place v.pending → IsCut input (λ events. From first now events T (Leaves first.conf))
     cut t none = reads.cut input mid u v going.read (λ events. From first now events T (Leaves first.conf)) t none whole
 
     pub malformed : (place : ℕ) → Took [] → IfSome input.left_after (λ more. IsRefused v.place (v.pending ++ more) place)

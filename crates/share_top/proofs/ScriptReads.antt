@@ -6,7 +6,7 @@ use Rattle.std.proofs.lemmas.List.Concat.{flat_map-append}
 use Rattle.std.specs.Io.KnownBytes.{Consumes, IsAtEnd}
 use Rattle.std.proofs.KnownBytes.{Consumes-trans}
 use Rattle.session_script.specs.declared.event.Event.{Event}
-use Rattle.session_script.specs.Script.{Begins, IsEvent, IsScript, IsMalformed, IsRefused, HasNoEvent, line_of, end_line, longest}
+use Rattle.session_script.specs.Script.{Begins, IsEvent, IsScript, IsMalformed, IsRefused, HasNoMalformed, line_of, end_line, longest}
 use Rattle.session_script.specs.Unread.{Unread}
 use Rattle.session_script.specs.Reading.{Takes}
 use Rattle.session_script.proofs.OneReading.{malformed_is_none}
@@ -189,7 +189,7 @@ module _ (input : InputChange) (mid : Held) (u v : Unread) (g : IsRead input.lef
       }
 
   -- the input failed
-  pub cut : (Session : List Event → Type 0) (t : Took []) → HasNoEvent v.place v.pending → Session g.events → IsCut input Session
+  pub cut : (Session : List Event → Type 0) (t : Took []) → HasNoMalformed v.place v.pending → Session g.events → IsCut input Session
   cut Session t none session =
       let given = g.given ++ t.given in
       record {
@@ -200,7 +200,7 @@ module _ (input : InputChange) (mid : Held) (u v : Unread) (g : IsRead input.lef
           v.pending,
           subst (λ (l : List ℕ). Begins l g.events v.pending) (append-nil given)
               (subst (λ (l : List ℕ). Begins ((g.given ++ t.given) ++ []) g.events l) (append-nil v.pending) (begins_still input.left mid input.left_after u v g t [])),
-          subst (λ (n : ℕ). HasNoEvent n v.pending) (still_at input.left mid input.left_after u v g t) none,
+          subst (λ (n : ℕ). HasNoMalformed n v.pending) (still_at input.left mid input.left_after u v g t) none,
         );
         session = session;
       }

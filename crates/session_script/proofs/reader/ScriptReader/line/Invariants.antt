@@ -1,6 +1,6 @@
 use Rattle.std.proofs.Common.{◌≤◌, ◌-◌, ◌+◌, [], length}
 use Rattle.session_script.specs.Reading.{Takes}
-use Rattle.session_script.specs.Lines.{longest_line}
+use Rattle.session_script.specs.Script.{longest_line}
 use Rattle.session_script.proofs.reader.ScriptReader.line.Given as goal
 
 abbrev pub invariant-pieces : goal.invariant-pieces

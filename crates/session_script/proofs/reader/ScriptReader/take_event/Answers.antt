@@ -1,6 +1,7 @@
-use Rattle.std.proofs.Common.{rules}
+use Rattle.std.proofs.Common.{◌≤◌, length, inl, rules}
+use Rattle.session_script.specs.Script.{longest_line}
 use Rattle.session_script.specs.Lines.{HasNone, IsUnfinished}
-use Rattle.session_script.proofs.Refusals.{unfinished_refused, cut_no_event}
+use Rattle.session_script.proofs.Refusals.{unfinished_refused}
 use Rattle.session_script.proofs.reader.ScriptReader.take_event.Goals as goal
 
 pub returns-in-Ok-None-clause-answer : goal.returns-in-Ok-None-clause-answer
@@ -10,5 +11,5 @@ returns-in-Ok-None-clause-answer g c =
 
 pub returns-in-Err-Failed-clause-answer : goal.returns-in-Err-Failed-clause-answer
 returns-in-Err-Failed-clause-answer g c =
-    let none : HasNone 10 c.line.new.self.pending = search rules in
-    cut_no_event c.line.new.self.place c.line.new.self.pending none
+    let open_line : HasNone 10 c.line.new.self.pending × (length c.line.new.self.pending ≤ longest_line) = search rules in
+    inl open_line
