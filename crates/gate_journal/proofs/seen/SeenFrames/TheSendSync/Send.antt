@@ -1,5 +1,4 @@
 -- Seen frames own nothing, so they may go to another thread.
-use denote.RattleType.{RattleType}
 use denote.Param.Send.{IsSend, owning_send}
 use Rattle.gate_journal.specs.contracts.seen.SeenFrames.{the_row, the_type}
 

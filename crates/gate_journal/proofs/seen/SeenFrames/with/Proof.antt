@@ -1,5 +1,5 @@
 -- `with` makes the empty struct, with the frames that its clause names. Assumes `Logic`.
-use Rattle.std.proofs.Common.{List, [], ◌∷◌, ◌++◌, length, ℕ, refl}
+use Rattle.std.proofs.Common.{List, [], ◌∷◌, ◌++◌, length, refl}
 use seplogic.Ra.Ura.{Ura}
 use mir.Syntax.{Fn}
 use mir.Val.{Val, vptr}
@@ -16,7 +16,7 @@ use types.Part.{agg}
 use types.Run.{enter, returns, no_more}
 use types.ByLocal.{alloc_all, pass_all, free_all, look_at, sets}
 use denote.Exit.{yes}
-use denote.RattleType.{RattleType, owns}
+use denote.RattleType.{owns}
 use denote.Builtin.{u8, u64, RefOf, SliceRefOf}
 use denote.Signature.{plain, types_at}
 use denote.Steps.{nothing}
