@@ -4,3 +4,4 @@ pub mod Clearing
 pub mod Reading
 pub mod Visits
 pub mod Spares
+pub mod Groups

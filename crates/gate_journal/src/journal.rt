@@ -9,6 +9,7 @@ ghost use Rattle.gate_journal.specs.Frames.{IsBeforeOrAfter, IsWithPending, IsFr
 ghost use Rattle.gate_journal.specs.Reading.{ExtendsWithin, HasFrameAt, ReadsOnly};
 ghost use Rattle.share_model.specs.Rooms.{Appends, Reserves};
 
+use crate::buffer::set_frame;
 use crate::reading::append_frame;
 use crate::writer::{Mending, Writer};
 use edge_io::{Disk, Failed, FaultMode};
@@ -18,18 +19,6 @@ use std::marker::Model;
 const MAX_END: u64 = 1 << 62;
 
 const MAX_FRAME: u32 = 33554432;
-
-// Sets the length before the frame and the closed gate behind it.
-fn set_frame(buffer: &mut [u8])
-    requires room { 5 ≤ length buffer.old }
-    requires few { length buffer.old ≤ 33554437 }
-    ensures { buffer.new ≡ framed (frame_in buffer.old) }
-{
-    let len = buffer.len() - 5;
-    let (front, rest) = buffer.split_at_mut(4);
-    front.copy_from_slice(&(len as u32).to_be_bytes());
-    rest[len] = 0;
-}
 
 /// A list of frames on a disk, which grows by one frame at a time and survives a crash at any moment.
 ///
@@ -54,6 +43,7 @@ impl<D: Disk> Model for Journal<D> {
 impl<D: Disk> Journal<D> {
     ghost use Rattle.gate_journal.specs.Clearing.{IsAsBefore, IsBare, IsLone, IsPartlyCleared, IsTouched, MayClear};
     ghost use Rattle.gate_journal.specs.Frames.{IsShut, StandsFor};
+    ghost use Rattle.gate_journal.specs.Groups.{AddsAll, IsAllOrNone, IsGroup, StandsAll};
     ghost use Rattle.gate_journal.specs.Journals.{HasRoom, IsAtRest, IsShaped, Stands, Adds, RefusesFull, SetsBuffer, calls_to_mend};
 
     // A journal of frames that were read from the disk.
@@ -115,7 +105,56 @@ impl<D: Disk> Journal<D> {
             return Err(StoreFault::Device);
         }
         let number = self.writer.count;
-        if let Err(_) = self.writer.add(buffer) {
+        if let Err(_) = self.writer.add(buffer, 1) {
+            return Err(StoreFault::Device);
+        }
+        Ok(number)
+    }
+
+    /// Adds several frames at once, and answers the number of the first one, from 0 on: a crash leaves all of them
+    /// or none. It takes no memory.
+    ///
+    /// `buffer` has so many frames, one or more, as `join_frame` lays them behind each other: each behind its length,
+    /// and between two of them an open gate.
+    ///
+    /// It makes the calls of one append, whatever the number of frames: a write of all behind the closed gate, a sync,
+    /// a write that opens this gate, a sync; and before them those that mend, two or four. The first call that fails
+    /// is the last.
+    ///
+    /// At `Device` all of these frames are pending, or those that were pending still are. At `Full` the last frame
+    /// would end past 2^62 bytes, and nothing is changed; `end` is the number of bytes up to the last gate and with
+    /// it.
+    pub fn append_all(&mut self, buffer: &[u8], count: u64) -> Result<u64, StoreFault>
+        requires group { (group : List (List ℕ)) × IsGroup buffer.now count group }
+
+        // At Ok the frames stand behind the others, and no write is pending.
+        ensures ok { OnOk result ((group : List (List ℕ)) → IsGroup buffer.now count group → AddsAll D.seen group self.old self.new) }
+        ensures number { IfOk result (λ n. n ≡ self.old.count) }
+
+        // At Err the frames are the same. The pending write is the one from before, or this one.
+        ensures failed { OnErr result ((frames pending group : List (List ℕ)) → IsGroup buffer.now count group →
+            StandsAll D.seen self.old frames pending → StandsAll D.seen self.new frames pending ⊎ StandsAll D.seen self.new frames group) }
+        ensures full { RefusesFull self.old self.new buffer.now buffer.now result }
+
+        // At each moment since the call began a crash leaves the frames, with all or none of the pending ones, or with
+        // all of these.
+        ensures any_moment { (frames pending group : List (List ℕ)) → IsGroup buffer.now count group → StandsAll D.seen self.old frames pending →
+            LeavesOnly D.seen self.old.disk self.new.disk (λ c. IsAllOrNone frames pending c ⊎ IsAllOrNone frames group c) }
+
+        // The calls that mend, and four more.
+        ensures disk { MakesCalls D.seen (calls_to_mend self.old.mending + 4)
+            self.old.disk self.new.disk StoreFault.Device result }
+    {
+        let len = buffer.len() as u64;
+        let end = self.writer.end;
+        if end > MAX_END || len > MAX_END - end {
+            return Err(StoreFault::Full { end });
+        }
+        if let Err(_) = self.writer.mend() {
+            return Err(StoreFault::Device);
+        }
+        let number = self.writer.count;
+        if let Err(_) = self.writer.add(buffer, count) {
             return Err(StoreFault::Device);
         }
         Ok(number)

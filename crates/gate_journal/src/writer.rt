@@ -1,12 +1,13 @@
 // The writing end of a journal: its last gate, and what is left to mend behind it.
-ghost use Rattle.std.specs.Prelude.{◌≡◌, ◌+◌, ◌<◌, ◌≤◌, ◌^◌, ◌++◌, [], ◌∷◌, List, ℕ, length, Some, None, OnOk, OnErr};
-ghost use Rattle.std.specs.declared.option.Option.{Option};
+ghost use Rattle.std.specs.Prelude.{◌≡◌, ◌+◌, ◌<◌, ◌≤◌, ◌^◌, ◌++◌, List, ℕ, length, OnOk, OnErr};
+ghost use Rattle.std.specs.List.{AllByRecursion};
 ghost use Rattle.edge_io.specs.Armed.{RunsOn};
 ghost use Rattle.edge_io.specs.Causes.{HasCause};
 ghost use Rattle.edge_io.specs.Counting.{DoesCalls, FailsInCalls};
 ghost use Rattle.edge_io.specs.Disk.{Follows, UnfinishedCut};
 ghost use Rattle.edge_io.specs.Moments.{LeavesOnly};
-ghost use Rattle.gate_journal.specs.Frames.{StandsFor, IsBeforeOrAfter, IsWithPending, IsFrame, IsRest, IsShut, IsHeld, IsAjar, framed, text_of};
+ghost use Rattle.gate_journal.specs.Frames.{StandsFor, IsFrame, IsRest, IsShut, text_of};
+ghost use Rattle.gate_journal.specs.Groups.{AreAjar, AreHeld, IsAllOrNone, IsGroup, group_text};
 
 use crate::device::{cut_and_sync, write_and_sync};
 use edge_io::{Disk, Failed};
@@ -31,19 +32,20 @@ pub struct Writer<D: Disk> {
 }
 
 impl<D: Disk> Writer<D> {
-    ghost use Rattle.gate_journal.specs.Journals.{HasRoom, IsShaped, Mends, calls_to_mend};
+    ghost use Rattle.gate_journal.specs.Groups.{MendsAll};
+    ghost use Rattle.gate_journal.specs.Journals.{HasRoom, IsShaped, calls_to_mend};
 
     // Closes a gate that may be open.
     fn close_gate(&mut self) -> Result<(), Failed>
         requires gate { self.old.mending ≡ Mending.Gate }
         requires room { HasRoom D.seen self.old }
         requires ends { self.old.end ≤ 2 ^ 62 }
-        ensures ok { OnOk result ((frames : List (List ℕ)) (frame : List ℕ) → IsShaped D.seen self.old frames (IsAjar frames frame) →
+        ensures ok { OnOk result ((frames group : List (List ℕ)) → IsShaped D.seen self.old frames (AreAjar frames group) →
             IsShaped D.seen self.new frames (IsShut frames)) }
-        ensures kept { (frames : List (List ℕ)) (frame : List ℕ) → IsShaped D.seen self.old frames (IsAjar frames frame) →
-            IsShaped D.seen self.new frames (IsAjar frames frame) }
-        ensures any_moment { (frames : List (List ℕ)) (frame : List ℕ) → IsShaped D.seen self.old frames (IsAjar frames frame) → IsFrame frame →
-            LeavesOnly D.seen self.old.disk self.new.disk (IsBeforeOrAfter frames frame) }
+        ensures kept { (frames group : List (List ℕ)) → IsShaped D.seen self.old frames (AreAjar frames group) →
+            IsShaped D.seen self.new frames (AreAjar frames group) }
+        ensures any_moment { (frames group : List (List ℕ)) → IsShaped D.seen self.old frames (AreAjar frames group) →
+            AllByRecursion IsFrame group → 0 < length group → LeavesOnly D.seen self.old.disk self.new.disk (IsAllOrNone frames group) }
         ensures done { OnOk result (self.new.mending ≡ Mending.Behind) }
         ensures err { OnErr result (self.new.mending ≡ Mending.Gate) }
         ensures same { (self.new.end ≡ self.old.end) × (self.new.count ≡ self.old.count) }
@@ -81,13 +83,13 @@ impl<D: Disk> Writer<D> {
         Ok(())
     }
 
-    // Writes a frame behind the closed gate.
+    // Writes frames behind the closed gate.
     fn stage(&mut self, bytes: &[u8]) -> Result<(), Failed>
         requires mended { self.old.mending ≡ Mending.Nothing }
         requires room { HasRoom D.seen self.old }
         requires ends { self.old.end + length bytes.now ≤ 2 ^ 62 }
-        ensures ok { OnOk result ((frames : List (List ℕ)) (frame : List ℕ) → IsShaped D.seen self.old frames (IsRest frames) →
-            bytes.now ≡ framed frame → IsShaped D.seen self.new frames (IsHeld frames frame)) }
+        ensures ok { OnOk result ((frames group : List (List ℕ)) → IsShaped D.seen self.old frames (IsRest frames) →
+            bytes.now ≡ group_text group → IsShaped D.seen self.new frames (AreHeld frames group)) }
         ensures kept { (frames : List (List ℕ)) → IsShaped D.seen self.old frames (IsRest frames) → IsShaped D.seen self.new frames (IsShut frames) }
         ensures any_moment { (frames : List (List ℕ)) → IsShaped D.seen self.old frames (IsRest frames) →
             LeavesOnly D.seen self.old.disk self.new.disk (λ c. StandsFor c frames) }
@@ -108,22 +110,23 @@ impl<D: Disk> Writer<D> {
         Ok(())
     }
 
-    // Opens the gate before a frame that was written with its gate, `len` bytes in all.
-    fn open_gate(&mut self, len: u64) -> Result<(), Failed>
+    // Opens the gate before so many frames that were written with their gates, `len` bytes in all.
+    fn open_gate(&mut self, len: u64, count: u64) -> Result<(), Failed>
         requires mended { self.old.mending ≡ Mending.Nothing }
         requires room { HasRoom D.seen self.old }
         requires ends { self.old.end + len ≤ 2 ^ 62 }
         requires reach { self.old.end + len ≤ (D.seen self.old.disk).size }
         requires some { 0 < len }
-        ensures ok { OnOk result ((frames : List (List ℕ)) (frame : List ℕ) → IsShaped D.seen self.old frames (IsHeld frames frame) →
-            IsFrame frame → len ≡ length (framed frame) →
-            IsShaped D.seen self.new (frames ++ frame ∷ []) (λ c. c ≡ text_of (frames ++ frame ∷ []))) }
-        ensures kept { OnErr result ((frames : List (List ℕ)) (frame : List ℕ) → IsShaped D.seen self.old frames (IsHeld frames frame) →
-            IsShaped D.seen self.new frames (IsAjar frames frame)) }
-        ensures any_moment { (frames : List (List ℕ)) (frame : List ℕ) → IsShaped D.seen self.old frames (IsHeld frames frame) → IsFrame frame →
-            LeavesOnly D.seen self.old.disk self.new.disk (IsBeforeOrAfter frames frame) }
+        requires few { count ≤ len }
+        ensures ok { OnOk result ((frames group : List (List ℕ)) → IsShaped D.seen self.old frames (AreHeld frames group) →
+            AllByRecursion IsFrame group → 0 < length group → len ≡ length (group_text group) → count ≡ length group →
+            IsShaped D.seen self.new (frames ++ group) (λ c. c ≡ text_of (frames ++ group))) }
+        ensures kept { OnErr result ((frames group : List (List ℕ)) → IsShaped D.seen self.old frames (AreHeld frames group) →
+            IsShaped D.seen self.new frames (AreAjar frames group)) }
+        ensures any_moment { (frames group : List (List ℕ)) → IsShaped D.seen self.old frames (AreHeld frames group) →
+            AllByRecursion IsFrame group → 0 < length group → LeavesOnly D.seen self.old.disk self.new.disk (IsAllOrNone frames group) }
         ensures done { OnOk result ((self.new.mending ≡ Mending.Nothing) ×
-            (self.new.end ≡ self.old.end + len) × (self.new.count ≡ self.old.count + 1)) }
+            (self.new.end ≡ self.old.end + len) × (self.new.count ≡ self.old.count + count)) }
         ensures err { OnErr result ((self.new.mending ≡ Mending.Gate) ×
             (self.new.end ≡ self.old.end) × (self.new.count ≡ self.old.count)) }
         ensures room_kept { HasRoom D.seen self.new }
@@ -137,7 +140,7 @@ impl<D: Disk> Writer<D> {
             return Err(failed);
         }
         self.end += len;
-        self.count += 1;
+        self.count += count;
         Ok(())
     }
 
@@ -145,12 +148,12 @@ impl<D: Disk> Writer<D> {
     pub fn mend(&mut self) -> Result<(), Failed>
         requires room { HasRoom D.seen self.old }
         requires ends { self.old.end ≤ 2 ^ 62 }
-        ensures ok { OnOk result ((frames : List (List ℕ)) (pending : Option (List ℕ)) → Mends D.seen self.old self.old.mending frames pending →
+        ensures ok { OnOk result ((frames pending : List (List ℕ)) → MendsAll D.seen self.old self.old.mending frames pending →
             IsShaped D.seen self.new frames (IsRest frames)) }
-        ensures kept { OnErr result ((frames : List (List ℕ)) (pending : Option (List ℕ)) → Mends D.seen self.old self.old.mending frames pending →
-            Mends D.seen self.new self.new.mending frames pending) }
-        ensures any_moment { (frames : List (List ℕ)) (pending : Option (List ℕ)) → Mends D.seen self.old self.old.mending frames pending →
-            LeavesOnly D.seen self.old.disk self.new.disk (IsWithPending frames pending) }
+        ensures kept { OnErr result ((frames pending : List (List ℕ)) → MendsAll D.seen self.old self.old.mending frames pending →
+            MendsAll D.seen self.new self.new.mending frames pending) }
+        ensures any_moment { (frames pending : List (List ℕ)) → MendsAll D.seen self.old self.old.mending frames pending →
+            LeavesOnly D.seen self.old.disk self.new.disk (IsAllOrNone frames pending) }
         ensures done { OnOk result (self.new.mending ≡ Mending.Nothing) }
         ensures same { (self.new.end ≡ self.old.end) × (self.new.count ≡ self.old.count) }
         ensures room_kept { HasRoom D.seen self.new }
@@ -169,23 +172,21 @@ impl<D: Disk> Writer<D> {
         }
     }
 
-    // Adds a frame, which the bytes have with its length and its gate.
-    pub fn add(&mut self, bytes: &[u8]) -> Result<(), Failed>
+    // Adds so many frames, which the bytes have with their lengths and gates: all of them, or none.
+    pub fn add(&mut self, bytes: &[u8], count: u64) -> Result<(), Failed>
         requires mended { self.old.mending ≡ Mending.Nothing }
         requires room { HasRoom D.seen self.old }
         requires ends { self.old.end + length bytes.now ≤ 2 ^ 62 }
         requires some { 0 < length bytes.now }
-        ensures ok { OnOk result ((frames : List (List ℕ)) (frame : List ℕ) →
-            IsShaped D.seen self.old frames (IsRest frames) → IsFrame frame → bytes.now ≡ framed frame →
-            IsShaped D.seen self.new (frames ++ frame ∷ []) (λ c. c ≡ text_of (frames ++ frame ∷ []))) }
-        ensures kept { OnErr result ((frames : List (List ℕ)) (frame : List ℕ) →
-            IsShaped D.seen self.old frames (IsRest frames) → IsFrame frame → bytes.now ≡ framed frame →
-            Mends D.seen self.new self.new.mending frames (Some frame)) }
-        ensures any_moment { (frames : List (List ℕ)) (frame : List ℕ) → IsShaped D.seen self.old frames (IsRest frames) →
-            IsFrame frame → bytes.now ≡ framed frame →
-            LeavesOnly D.seen self.old.disk self.new.disk (IsBeforeOrAfter frames frame) }
+        requires few { count ≤ length bytes.now }
+        ensures ok { OnOk result ((frames group : List (List ℕ)) → IsShaped D.seen self.old frames (IsRest frames) → IsGroup bytes.now count group →
+            IsShaped D.seen self.new (frames ++ group) (λ c. c ≡ text_of (frames ++ group))) }
+        ensures kept { OnErr result ((frames group : List (List ℕ)) → IsShaped D.seen self.old frames (IsRest frames) → IsGroup bytes.now count group →
+            MendsAll D.seen self.new self.new.mending frames group) }
+        ensures any_moment { (frames group : List (List ℕ)) → IsShaped D.seen self.old frames (IsRest frames) → IsGroup bytes.now count group →
+            LeavesOnly D.seen self.old.disk self.new.disk (IsAllOrNone frames group) }
         ensures done { OnOk result ((self.new.mending ≡ Mending.Nothing) ×
-            (self.new.end ≡ self.old.end + length bytes.now) × (self.new.count ≡ self.old.count + 1)) }
+            (self.new.end ≡ self.old.end + length bytes.now) × (self.new.count ≡ self.old.count + count)) }
         ensures err { OnErr result ((self.new.end ≡ self.old.end) × (self.new.count ≡ self.old.count)) }
         ensures room_kept { HasRoom D.seen self.new }
         ensures runs { RunsOn D.seen self.old.disk self.new.disk }
@@ -194,6 +195,6 @@ impl<D: Disk> Writer<D> {
         ensures cause { HasCause (D.seen self.old.disk).faults (D.seen self.new.disk).faults result }
     {
         self.stage(bytes)?;
-        self.open_gate(bytes.len() as u64)
+        self.open_gate(bytes.len() as u64, count)
     }
 }

@@ -1,19 +1,22 @@
-use Rattle.std.proofs.Common.{refl, ap, ◌∙◌, ◌+◌, ℕ, length, inl, Some, arith}
+use Rattle.std.proofs.Common.{sym, ap, ◌∙◌, ◌+◌, ℕ, length, inl, arith}
 use Rattle.std.proofs.lemmas.Result.{on_ok_weaker, on_err_weaker}
 use Rattle.edge_io.proofs.Counting.{does_then, does_then_fails, fails_in_more}
 use Rattle.edge_io.proofs.Moments.{joined, weakened}
 use Rattle.edge_io.proofs.Runs.{runs_then}
-use Rattle.gate_journal.specs.Frames.{StandsFor, IsBeforeOrAfter}
+use Rattle.gate_journal.specs.Frames.{StandsFor}
+use Rattle.gate_journal.specs.Groups.{IsAllOrNone}
+use Rattle.gate_journal.specs.declared.writer.Mending.TheVariants.{Behind, Gate}
 use Rattle.gate_journal.proofs.Changes.{on_err_both, cause_then, cause_of}
-use Rattle.gate_journal.proofs.Shaped.{on_err, from_behind, from_gate}
+use Rattle.gate_journal.proofs.Grouped.{at_mending_all}
+use Rattle.gate_journal.proofs.Shaped.{on_err}
 use Rattle.gate_journal.proofs.writer.Writer.add.Goals as goal
 
 pub returns-in_err-stage-clause-kept : goal.returns-in_err-stage-clause-kept
-returns-in_err-stage-clause-kept g c = on_err c.from_residual.result _ (λ frames frame s one is.
-    from_behind g.D.Disk.seen c.stage.new.self _ frames (Some frame) c.in_err-stage.ensures.err (c.stage.ensures.kept frames s))
+returns-in_err-stage-clause-kept g c = on_err c.from_residual.result _ (λ frames group s is.
+    at_mending_all g.D.Disk.seen c.stage.new.self Behind _ frames group (sym c.in_err-stage.ensures.err) (c.stage.ensures.kept frames s))
 
 pub returns-in_err-stage-clause-any_moment : goal.returns-in_err-stage-clause-any_moment
-returns-in_err-stage-clause-any_moment g c = λ frames frame s one is.
+returns-in_err-stage-clause-any_moment g c = λ frames group s is.
     weakened g.D.Disk.seen _ _ _ _ (c.stage.ensures.any_moment frames s) (λ x stands. inl stands)
 
 pub returns-in_err-stage-clause-err : goal.returns-in_err-stage-clause-err
@@ -34,24 +37,24 @@ returns-in_err-stage-clause-cause g c = cause_of _ _ _ c.from_residual.result c.
 
 pub returns-clause-ok : goal.returns-clause-ok
 returns-clause-ok g c = on_ok_weaker c.open_gate.result
-    (λ opens frames frame s one is. opens frames frame (c.in_ok-stage.ensures.ok frames frame s is) one (ap length is)) c.open_gate.ensures.ok
+    (λ opens frames group s is. opens frames group (c.in_ok-stage.ensures.ok frames group s is.is) is.fit is.some (ap length is.is) is.count_is) c.open_gate.ensures.ok
 
 pub returns-clause-kept : goal.returns-clause-kept
-returns-clause-kept g c = on_err_both c.open_gate.result _ _ _ c.open_gate.ensures.kept c.open_gate.ensures.err (λ kept err frames frame s one is.
-    from_gate g.D.Disk.seen c.open_gate.new.self _ frames (Some frame) err.0 frame refl one
-    (kept frames frame (c.in_ok-stage.ensures.ok frames frame s is)))
+returns-clause-kept g c = on_err_both c.open_gate.result _ _ _ c.open_gate.ensures.kept c.open_gate.ensures.err (λ kept err frames group s is.
+    at_mending_all g.D.Disk.seen c.open_gate.new.self Gate _ frames group (sym err.0)
+    (is.some, is.fit, kept frames group (c.in_ok-stage.ensures.ok frames group s is.is)))
 
 pub returns-clause-any_moment : goal.returns-clause-any_moment
-returns-clause-any_moment g c = λ frames frame s one is.
+returns-clause-any_moment g c = λ frames group s is.
     joined g.D.Disk.seen c.args.self.now.disk c.stage.new.self.disk c.open_gate.new.self.disk
-    (λ x. StandsFor x frames) (IsBeforeOrAfter frames frame) (IsBeforeOrAfter frames frame) (c.stage.ensures.any_moment frames s)
-    (c.open_gate.ensures.any_moment frames frame (c.in_ok-stage.ensures.ok frames frame s is) one) (λ x p. inl p) (λ x p. p)
+    (λ x. StandsFor x frames) (IsAllOrNone frames group) (IsAllOrNone frames group) (c.stage.ensures.any_moment frames s)
+    (c.open_gate.ensures.any_moment frames group (c.in_ok-stage.ensures.ok frames group s is.is) is.fit is.some) (λ x p. inl p) (λ x p. p)
 
 pub returns-clause-done : goal.returns-clause-done
 returns-clause-done g c = on_ok_weaker c.open_gate.result (λ done. (
   done.0,
   done.1 ∙ ap (λ (n : ℕ). n + length c.args.bytes.now) c.stage.ensures.same.0,
-  done.2 ∙ ap (λ (n : ℕ). n + 1) c.stage.ensures.same.1,
+  done.2 ∙ ap (λ (n : ℕ). n + c.args.count) c.stage.ensures.same.1,
 )) c.open_gate.ensures.done
 
 pub returns-clause-err : goal.returns-clause-err

@@ -1,13 +1,15 @@
-use Rattle.gate_journal.specs.Frames.{IsRest, IsShut, IsHeld, StandsFor}
+use Rattle.gate_journal.specs.Frames.{IsRest, IsShut, StandsFor}
+use Rattle.gate_journal.specs.Groups.{AreHeld}
+use Rattle.gate_journal.proofs.Grouped.{all_staged}
 use Rattle.gate_journal.proofs.Shaped.{followed, reached, at_moments}
-use Rattle.gate_journal.proofs.Shapes.{staging, staged, shut_stands}
+use Rattle.gate_journal.proofs.Shapes.{staging, shut_stands}
 use Rattle.gate_journal.proofs.writer.Writer.stage.Goals as goal
 
 pub returns-clause-ok : goal.returns-clause-ok
-returns-clause-ok g c = λ frames frame s is. record {
-  each = reached _ _ (IsRest frames) (IsHeld frames frame) s.each _
+returns-clause-ok g c = λ frames group s is. record {
+  each = reached _ _ (IsRest frames) (AreHeld frames group) s.each _
       (λ x told. (g.met.D.Disk.read_is_image c.args.self.now.disk x told).0) _ c.in_default.ensures.ok
-      (λ d e. staged frames frame _ _ d e s.end is);
+      (λ d e. all_staged frames group _ _ d e s.end is);
   fit = s.fit;
   end = s.end;
   count = s.count;
