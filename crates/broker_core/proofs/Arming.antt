@@ -4,10 +4,10 @@ use Rattle.std.specs.List.{AllZip, flat_map}
 use Rattle.std.specs.declared.option.Option.{Option}
 use Rattle.edge_io.specs.declared.fault.FaultMode.{FaultMode}
 use Rattle.edge_io.specs.declared.name.DiskPlace.{DiskPlace}
-use Rattle.edge_io.specs.declared.name.DiskPlace.TheVariants.{Log, StateA, StateB}
+use Rattle.edge_io.specs.declared.name.DiskPlace.TheVariants.{Log, LogB, StateA, StateB}
 use Rattle.edge_io.specs.Armed.{ArmsAlone}
 use Rattle.edge_io.specs.Disk.{IsTold}
-use Rattle.edge_io.specs.Names.{hosted_name}
+use Rattle.edge_io.specs.Names.{IsTextPlace, hosted_name}
 use Rattle.share_coord.specs.Parts.{StoreParts}
 use Rattle.gate_journal.specs.declared.writer.Writer.{Writer}
 use Rattle.foreign_coord.specs.Shards.{ForeignShardState, Carries}
@@ -102,10 +102,12 @@ module _ {D : Type 0} (seen : D → DiskView) where
   ArmsP after mode was is place = ArmsPlace seen after mode was is place
 
   pub place_of_arm : (after : ℕ) (mode : FaultMode) (was is : OpenPart D) (place : DiskPlace) → (place ≡ Log → ArmsP after mode was is Log)
-      → (place ≡ StateA → ArmsP after mode was is StateA) → (place ≡ StateB → ArmsP after mode was is StateB) → ArmsP after mode was is place
-  place_of_arm after mode was is Log on_log on_first on_second = on_log refl
-  place_of_arm after mode was is StateA on_log on_first on_second = on_first refl
-  place_of_arm after mode was is StateB on_log on_first on_second = on_second refl
+      → (place ≡ StateA → ArmsP after mode was is StateA) → (place ≡ StateB → ArmsP after mode was is StateB) → IsTextPlace place
+      → ArmsP after mode was is place
+  place_of_arm after mode was is Log on_log on_first on_second text = on_log refl
+  place_of_arm after mode was is LogB on_log on_first on_second text = text
+  place_of_arm after mode was is StateA on_log on_first on_second text = on_first refl
+  place_of_arm after mode was is StateB on_log on_first on_second text = on_second refl
 
   abbrev Fed : D → Type 0
   Fed d = IsFed seen d
@@ -123,6 +125,7 @@ module _ {D : Type 0} (seen : D → DiskView) where
     first = subst (λ (t : StoreParts D). Fed t.journal.first.disk) (sym a.1) k.first;
     second = subst (λ (t : StoreParts D). Fed t.journal.second.disk) (sym a.1) k.second;
   }
+  part_armed after mode conf was is LogB s a same stays k = absurd a
   part_armed after mode conf was is StateA s a same stays k = record {
     conf_is = same ∙ k.conf_is;
     carries = stays k.carries;
@@ -146,6 +149,7 @@ module _ {D : Type 0} (seen : D → DiskView) where
     second = subst (λ (t : StoreParts D). GoesOn seen was.states.journal.second.disk t.journal.second.disk) (sym a.1)
         (least_on seen was.states.journal.second.disk);
   }
+  part_goes after mode was is LogB a = absurd a
   part_goes after mode was is StateA a = record {
     log = subst (λ (t : LogParts D). GoesOn seen was.log.journal.disk t.journal.disk) (sym a.2)
         (least_on seen was.log.journal.disk);
@@ -166,6 +170,7 @@ module _ {D : Type 0} (seen : D → DiskView) where
 
   told_of_part : (conf : PartConfParts) (p : OpenPart D) (s : PartShardState) (place : DiskPlace) → IsPartCarried seen conf p s → told_at place p
   told_of_part conf p s Log k = k.log.told
+  told_of_part conf p s LogB k = k.log.told
   told_of_part conf p s StateA k = k.first.told
   told_of_part conf p s StateB k = k.second.told
 
@@ -173,6 +178,7 @@ module _ {D : Type 0} (seen : D → DiskView) where
   place_armed : (after : ℕ) (mode : FaultMode) (was is : OpenPart D) (place : DiskPlace) → told_at place was → ArmsP after mode was is place
       → facts (open_disk is place) ≡ with_arm after mode (facts (open_disk was place))
   place_armed after mode was is Log told a = armed_facts after mode was.log.journal.disk is.log.journal.disk told a.0
+  place_armed after mode was is LogB told a = absurd a
   place_armed after mode was is StateA told a = armed_facts after mode was.states.journal.first.disk is.states.journal.first.disk told a.0
   place_armed after mode was is StateB told a = armed_facts after mode was.states.journal.second.disk is.states.journal.second.disk told a.0
 
@@ -190,6 +196,7 @@ module _ {D : Type 0} (seen : D → DiskView) where
       ap (λ (t : StoreParts D). three h (facts (open_disk is Log)) (facts t.journal.first.disk) (facts t.journal.second.disk) o name) a.1
       ∙ past_one (same_name name (log_of h)) (facts (open_disk is Log)) (facts (open_disk was Log))
       (cond (same_name name (first_of h)) (facts (open_disk was StateA)) (cond (same_name name (second_of h)) (facts (open_disk was StateB)) o)) away
+  place_past h after mode was is LogB o name away a = absurd a
   place_past h after mode was is StateA o name away a =
       ap (λ (t : LogParts D). three h (facts t.journal.disk) (facts (open_disk is StateA)) (facts (open_disk is StateB)) o name) a.2
       ∙ ap (λ (w : Writer D). three h (facts (open_disk was Log)) (facts (open_disk is StateA)) (facts w.disk) o name) a.1
@@ -271,10 +278,18 @@ module _ {D : Type 0} (seen : D → DiskView) where
       ∙ sym (ap (λ (s : PartState D). EndOf (hosted_slot x) s o name) p.old_is)
 
   known_place : (hosts : HostsParts D) (n : ℕ) (x : PartSlot D) → HoldsAt n (λ z. z ≡ x) hosts.parts → AreDistinct (part_disks (hosted_slots hosts.parts))
-      → (place : DiskPlace) → F hosts (hosted_name x.topic x.conf.part place) ≡ slot_facts x place
-  known_place hosts n x there apart Log = (known_at seen hosts n x there apart).0
-  known_place hosts n x there apart StateA = (known_at seen hosts n x there apart).1
-  known_place hosts n x there apart StateB = (known_at seen hosts n x there apart).2
+      → (place : DiskPlace) → IsTextPlace place → F hosts (hosted_name x.topic x.conf.part place) ≡ slot_facts x place
+  known_place hosts n x there apart Log text = (known_at seen hosts n x there apart).0
+  known_place hosts n x there apart LogB text = absurd text
+  known_place hosts n x there apart StateA text = (known_at seen hosts n x there apart).1
+  known_place hosts n x there apart StateB text = (known_at seen hosts n x there apart).2
+
+  -- what arms a disk arms one that a text names
+  text_of_arm : (place : DiskPlace) (after : ℕ) (mode : FaultMode) (was is : OpenPart D) → ArmsP after mode was is place → IsTextPlace place
+  text_of_arm Log after mode was is a = tt
+  text_of_arm LogB after mode was is a = a
+  text_of_arm StateA after mode was is a = tt
+  text_of_arm StateB after mode was is a = tt
 
   module _ (old : HostsParts D) (ys : List (PartSlot D)) (n : ℕ) (place : DiskPlace) (disk : List ℕ) (after : ℕ) (mode : FaultMode)
       (at : HoldsAt n (λ (z : PartSlot D). hosted_name z.topic z.conf.part place ≡ disk) old.parts)
@@ -299,6 +314,9 @@ module _ {D : Type 0} (seen : D → DiskView) where
     apart_then : AreDistinct (part_disks (hosted_slots ys))
     apart_then = subst (λ (hs : List Hosted). AreDistinct (part_disks hs)) (sym hosted_then) (parts_apart (hosted_slots old.parts) apart)
 
+    text : IsTextPlace place
+    text = text_of_arm place after mode c.change.was c.change.is c.change.arms_disk
+
     armed_now : slot_facts c.y place ≡ with_arm after mode (slot_facts c.x place)
     armed_now = change_of n (ArmsPart place after mode c.x c.y) (λ e f g. g.armed_is) s.parts c.after c.goes
 
@@ -306,9 +324,9 @@ module _ {D : Type 0} (seen : D → DiskView) where
     at_disk =
         subst (λ (m : List ℕ). F new m ≡ with_arm after mode (F old m)) disk_is
         (ap (λ (h : Hosted). F new (hosted_name h.topic h.conf.part place)) (sym hosted_is)
-        ∙ known_place new n c.y c.here apart_then place
+        ∙ known_place new n c.y c.here apart_then place text
         ∙ armed_now
-        ∙ sym (ap (with_arm after mode) (known_place old n c.x c.there (parts_apart (hosted_slots old.parts) apart) place)))
+        ∙ sym (ap (with_arm after mode) (known_place old n c.x c.there (parts_apart (hosted_slots old.parts) apart) place text)))
 
     self : (a b : List ℕ) → a ≡ b → same_name a b ≡ true
     self a b e = subst (λ (m : List ℕ). same_name a m ≡ true) e (same_self a)

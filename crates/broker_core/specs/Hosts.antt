@@ -7,7 +7,7 @@ use Rattle.std.specs.List.{AllByRecursion, AllZip, flat_map}
 use Rattle.std.specs.declared.option.Option.{Option}
 use Rattle.edge_io.specs.declared.fault.FaultMode.{FaultMode}
 use Rattle.edge_io.specs.declared.name.DiskPlace.{DiskPlace}
-use Rattle.edge_io.specs.declared.name.DiskPlace.TheVariants.{Log, StateA, StateB}
+use Rattle.edge_io.specs.declared.name.DiskPlace.TheVariants.{Log, LogB, StateA, StateB}
 use Rattle.edge_io.specs.Armed.{ArmsAlone}
 use Rattle.edge_io.specs.declared.fault.Armed.TheVariants.{Nothing}
 use Rattle.edge_io.specs.Causes.{Rose}
@@ -159,14 +159,16 @@ foreign_disks (foreign.Open store) = Some (store.journal.first.disk, store.journ
 foreign_disks (foreign.Shut first second) = Some (first, second)
 foreign_disks foreign.Gone = None
 
--- one of a partition's three
+-- one of a partition's three; of a log's second disk, which no partition has, nothing is asked, and the log's stands there
 abbrev pub open_disk : {D : Type 0} → OpenPart D → DiskPlace → D
 open_disk shard Log = shard.log.journal.disk
+open_disk shard LogB = shard.log.journal.disk
 open_disk shard StateA = shard.states.journal.first.disk
 open_disk shard StateB = shard.states.journal.second.disk
 
 abbrev pub shut_disk : {D : Type 0} → (log first second : D) → DiskPlace → D
 shut_disk log first second Log = log
+shut_disk log first second LogB = log
 shut_disk log first second StateA = first
 shut_disk log first second StateB = second
 
@@ -217,6 +219,7 @@ foreign_end foreign.Gone name = 0
 
 abbrev pub open_end : {D : Type 0} → OpenPart D → DiskPlace → ℕ
 open_end shard Log = shard.log.journal.end
+open_end shard LogB = 0
 open_end shard StateA = shard.states.journal.end
 open_end shard StateB = 0
 
@@ -480,6 +483,7 @@ pub record HaltsSlot {D : Type 0} (seen : D → DiskView)
 abbrev pub ArmsPlace : {D : Type 0} → (D → DiskView) → (passes : ℕ) → FaultMode → OpenPart D → OpenPart D → DiskPlace → Type 0
 ArmsPlace seen passes mode was is Log =
     ArmsAlone seen passes mode was.log.journal.disk is.log.journal.disk × (is.states ≡ was.states)
+ArmsPlace seen passes mode was is LogB = ⊥
 ArmsPlace seen passes mode was is StateA =
     ArmsAlone seen passes mode was.states.journal.first.disk is.states.journal.first.disk
     × (is.states.journal.second ≡ was.states.journal.second) × (is.log ≡ was.log)

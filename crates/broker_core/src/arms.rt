@@ -1,6 +1,6 @@
 // Armed faults, by the names of disks.
-ghost use Rattle.std.specs.Prelude.{◌≡◌, ◌↔◌, IsTrue, MatchOption};
-ghost use Rattle.edge_io.specs.Names.{IsTopicName, hosted_name};
+ghost use Rattle.std.specs.Prelude.{◌≡◌, ◌↔◌, IsTrue, IfSome, MatchOption};
+ghost use Rattle.edge_io.specs.Names.{IsTextPlace, IsTopicName, hosted_name};
 ghost use Rattle.broker_model.specs.Hosted.{HoldsAt, disks_of, part_disks};
 ghost use Rattle.broker_model.specs.Shards.{Shards};
 ghost use Rattle.broker_core.specs.Hosts.{AreApart, AreCarried, AreNamed, AreOpen, ArmsSlot, GoOn, IsOpen, IsOpenState, NotIn, StaysHosted, disks_in, hosted_slot, hosted_slots, parts_of};
@@ -13,7 +13,8 @@ use crate::slot::{ForeignSlot, PartSlot, PartState};
 use edge_io::{Disk, DiskName, DiskPlace, FaultMode};
 
 fn arm_part<D: Disk>(place: DiskPlace, after: u64, mode: FaultMode, slot: &mut PartSlot<D>)
-    requires { IsOpenState slot.old.state }
+    requires open { IsOpenState slot.old.state }
+    requires of_text { IsTextPlace place }
     ensures { ArmsSlot D.seen place after mode slot.old slot.new }
 {
     match &mut slot.state {
@@ -49,8 +50,9 @@ fn is_disk_of<D: Disk>(disk: &DiskName, slot: &PartSlot<D>, place: DiskPlace) ->
 // Which of a partition's three disks has this name.
 fn place_in<D: Disk>(disk: &DiskName, slot: &PartSlot<D>) -> Option<DiskPlace>
     requires { IsTopicName slot.now.topic }
-    ensures { MatchOption result (NotIn (disks_of (hosted_slot slot.now)) disk.now)
+    ensures at { MatchOption result (NotIn (disks_of (hosted_slot slot.now)) disk.now)
         (λ place. hosted_name slot.now.topic slot.now.conf.part place ≡ disk.now) }
+    ensures of_text { IfSome result (λ place. IsTextPlace place) }
 {
     if is_disk_of(disk, slot, DiskPlace::Log) {
         return Some(DiskPlace::Log);
@@ -67,8 +69,9 @@ fn place_in<D: Disk>(disk: &DiskName, slot: &PartSlot<D>) -> Option<DiskPlace>
 // Which slot has the disk of this name, and as which of its three.
 fn place_of<D: Disk>(disk: &DiskName, parts: &[PartSlot<D>]) -> Option<(usize, DiskPlace)>
     requires { AreNamed (hosted_slots parts.now) }
-    ensures { MatchOption result (NotIn (part_disks (hosted_slots parts.now)) disk.now)
+    ensures at { MatchOption result (NotIn (part_disks (hosted_slots parts.now)) disk.now)
         (λ found. HoldsAt found.0 (λ s. hosted_name s.topic s.conf.part found.1 ≡ disk.now) parts.now) }
+    ensures of_text { IfSome result (λ found. IsTextPlace found.1) }
 {
     let mut number = 0;
     let mut rest = parts;

@@ -1,10 +1,11 @@
 // What the jobs of a server do: a worker serves links from the desk, and the expiry worker expires locks and
 // sessions, each through its own passes.
-use crate::connection::serve_connection;
+use crate::connection::{Ended, serve_connection};
 use crate::desk::Desk;
 use crate::expiry::expiry_turn;
 use crate::naming::{Handed, Named, Naming};
-use edge_io::{Clock, Disk, Gate, Link};
+use edge_io::{Clock, CloseReason, Disk, Gate, Link};
+use share_model::CloseCause;
 use std::alloc::Global;
 use std::sync::{Arc, Wait};
 
@@ -16,6 +17,23 @@ pub struct Hand<R, K, C, D: Disk, B: Naming<D>> {
     pub desk: Arc<Desk<K, D, B>, Global>,
     pub handed: Handed<D, B>,
     pub clock: C,
+}
+
+// Tells a link why the broker closes it, where it does.
+fn tell_end<K: Link>(link: &mut K, ended: Ended) {
+    let reason = match ended {
+        Ended::Closed(CloseCause::TooLong { size }) => CloseReason::TooLong { size },
+        Ended::Closed(CloseCause::BadHeader) => CloseReason::BadHeader,
+        Ended::Closed(CloseCause::UnknownApi { key, version }) => CloseReason::UnknownApi {
+            key,
+            version,
+        },
+        Ended::Closed(CloseCause::BadBody { place }) => CloseReason::BadBody { place },
+        Ended::Closed(CloseCause::LongReply) => CloseReason::LongReply,
+        Ended::NoMemory => CloseReason::NoMemory,
+        Ended::Peer | Ended::Read | Ended::Write => return,
+    };
+    link.closed(reason);
 }
 
 // Serves one link.
@@ -30,7 +48,7 @@ fn serve_link<R: Wait, K: Link, C: Clock, G: Gate, D: Disk, B: Naming<D>>(
     gate: &G,
 ) -> Handed<D, B> {
     let mut passes = handed.into_passes();
-    let _ended = serve_connection(
+    let ended = serve_connection(
         rt,
         alloc,
         shared.get(),
@@ -40,6 +58,7 @@ fn serve_link<R: Wait, K: Link, C: Clock, G: Gate, D: Disk, B: Naming<D>>(
         clock,
         gate,
     );
+    tell_end(link, ended);
     Handed::new(passes)
 }
 

@@ -180,6 +180,7 @@ impl<D: Disk> StateJournal<D> {
     /// Arms a fault of one of its disks, and changes nothing else; it has no log.
     pub fn arm(&mut self, disk: DiskPlace, after: u64, mode: FaultMode)
         ensures log { disk ≡ DiskPlace.Log → self.new ≡ self.old }
+        ensures log_b { disk ≡ DiskPlace.LogB → self.new ≡ self.old }
         ensures first { disk ≡ DiskPlace.StateA →
             ArmsAlone D.seen after mode self.old.first.disk self.new.first.disk × (self.new.second ≡ self.old.second) }
         ensures second { disk ≡ DiskPlace.StateB →
@@ -191,6 +192,7 @@ impl<D: Disk> StateJournal<D> {
     {
         match disk {
             DiskPlace::Log => {}
+            DiskPlace::LogB => {}
             DiskPlace::StateA => self.first.arm(after, mode),
             DiskPlace::StateB => self.second.arm(after, mode),
         }

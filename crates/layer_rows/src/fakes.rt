@@ -127,6 +127,13 @@ impl Folders for FakeFolders {
         Ok(FakeFile { failing, bytes })
     }
 
+    fn has_file(&self, path: &str) -> io::Result<bool> {
+        match self.failing {
+            Some(SystemCall::Path) => Err(io::Error::from(ErrorKind::PermissionDenied)),
+            _ => Ok(self.notes.contains(path)),
+        }
+    }
+
     fn sync_folder(&mut self, path: &str) -> io::Result<()> {
         self.note(" sync ", path)?;
         done(&mut self.failing, SystemCall::SyncFolder)

@@ -111,6 +111,10 @@ impl Folders for MemFolders {
         })
     }
 
+    fn has_file(&self, path: &str) -> io::Result<bool> {
+        Ok(!path.ends_with("/log-b"))
+    }
+
     fn sync_folder(&mut self, _path: &str) -> io::Result<()> {
         Ok(())
     }

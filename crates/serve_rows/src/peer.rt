@@ -7,6 +7,7 @@ use std::alloc::Global;
 use std::collections::VecDeque;
 use std::io;
 use std::io::{ErrorKind, Read, Write};
+use std::net::OpenStream;
 use std::sync::Arc;
 
 #[derive(Drop)]
@@ -128,6 +129,9 @@ impl Read for Peer {
         Ok(0)
     }
 }
+
+/// It waits for nobody who looks.
+impl OpenStream for Peer {}
 
 impl Write for Peer {
     fn write(&mut self, bytes: &[u8]) -> io::Result<usize> {

@@ -3,7 +3,7 @@ use crate::board::Board;
 use crate::case::Case;
 use crate::peer::{judge, parted};
 use crate::serving::status_over;
-use edge_io::start;
+use edge_io::{CloseReason, start};
 use edge_real::{SocketNotices, SystemFault, TcpLinks, ThreadSpawner};
 use row_text::bytes_of;
 use std::alloc::Global;
@@ -35,7 +35,9 @@ impl SocketNotices for Ports {
 
     fn failed(&self, _peer: SocketAddr, _fault: SystemFault) {}
 
-    fn closed(&self, _peer: SocketAddr) {}
+    fn idle(&self, _peer: SocketAddr) {}
+
+    fn closed(&self, _peer: SocketAddr, _reason: Option<CloseReason>) {}
 
     fn for_link(&self) -> Ports {
         Ports { board: None }
@@ -114,6 +116,6 @@ pub fn socket_status<
     if started.is_err() {
         return Ok(String::from_str(alloc, "no thread for the client")?);
     }
-    let mut listener = TcpLinks::new(*handle, host, 0, notices);
+    let mut listener = TcpLinks::new(*handle, host, 0, None, notices);
     status_over(handle, rt, case, &mut listener)
 }

@@ -1,6 +1,6 @@
 -- A text is cut in one way at its first blank, or at its first line feed.
 use Rattle.std.proofs.Common.{◌≡◌, ◌≢◌, ◌<◌, ◌≤◌, ◌^◌, ℕ, zero, suc, List, [], ◌∷◌, ◌++◌, Option, Some, None, MatchOption, length, get_or}
-use Rattle.std.proofs.Common.{refl, sym, ap, ◌∙◌, subst, arith, lit<}
+use Rattle.std.proofs.Common.{inl, inr, refl, sym, ap, ◌∙◌, subst, arith, lit<}
 use Rattle.std.proofs.Common.{Bool, true, false, not, ◌&&◌, ◌==◌}
 use Rattle.std.proofs.lemmas.Bool.{and_parts, false≢true}
 use Rattle.std.proofs.lemmas.Bool.Decides.{nat_tests}
@@ -11,7 +11,7 @@ use Rattle.std.proofs.lemmas.Fmt.{decimal_is_IsNumeral}
 use Rattle.std.proofs.lemmas.Str.Pattern.{IsSplitOnceResult, split_after, split_parts}
 use denote.Ref.{Bor}
 use Rattle.std.proofs.lemmas.List.Elements.{All-get_or}
-use Rattle.edge_io.specs.Names.{is_topic_byte, IsTopicName, IsDiskName}
+use Rattle.edge_io.specs.Names.{is_topic_byte, IsTopicName, IsDiskName, IsTextName}
 use Rattle.edge_io.proofs.Names.{IsNameByte, name_bytes}
 use Rattle.session_script.specs.Lines.{HasNone, IsCut, HasNoCut}
 
@@ -68,10 +68,15 @@ no_feed n h = none_digits 10 (decimal n) (omega arith) (decimal_is_IsNumeral n h
 pub topic_lacks : (c : ℕ) (name : List ℕ) → is_topic_byte c ≡ false → IsTopicName name → HasNone c name
 topic_lacks c name other is = none_at c name (λ i lt e. false≢true (sym other ∙ subst (λ (b : ℕ). is_topic_byte b ≡ true) e (is.2 i 0 lt)))
 
+-- what a text names is the name of a disk
+pub is_disk : (name : List ℕ) → IsTextName name → IsDiskName name
+is_disk name (inl h) = inl (h.0, h.1, h.2, h.3, h.4, h.5)
+is_disk name (inr foreign) = inr foreign
+
 -- nor has that of a disk
-pub disk_lacks : (c : ℕ) (name : List ℕ) → (IsNameByte c → ⊥) → IsDiskName name → HasNone c name
+pub disk_lacks : (c : ℕ) (name : List ℕ) → (IsNameByte c → ⊥) → IsTextName name → HasNone c name
 disk_lacks c name other is =
-    none_at c name (λ i lt e. other (subst IsNameByte e (All-get_or IsNameByte name i 0 lt (name_bytes name is))))
+    none_at c name (λ i lt e. other (subst IsNameByte e (All-get_or IsNameByte name i 0 lt (name_bytes name (is_disk name is)))))
 
 pub cut_of : (text : List ℕ) (r : Option (Bor (List ℕ) × Bor (List ℕ))) → IsSplitOnceResult 32 text r →
     MatchOption r (HasNoCut text) (λ x. IsCut text x.0.now x.1.now)

@@ -13,7 +13,7 @@ use Rattle.session_script.specs.declared.event.Event.{Event}
 use Rattle.session_script.specs.declared.event.Event.TheVariants.{Open, Bytes, Close, Step, Expire, Tick, Arm, Power}
 use Rattle.session_script.specs.Script.{words_of, mode_word, line_of, IsEvent, end_line, longest, longest_line, HasNoEvent, HasNoMalformed, IsRefused}
 use Rattle.session_script.specs.Lines.{HasNone, IsLine, IsUnfinished, SaysNothing}
-use Rattle.session_script.proofs.Cuts.{one_cut, none_append, no_feed, lacks_none, topic_lacks, disk_lacks}
+use Rattle.session_script.proofs.Cuts.{one_cut, none_append, no_feed, lacks_none, topic_lacks, is_disk, disk_lacks}
 use Rattle.session_script.proofs.Sayings.{same_head, same_rest}
 use Rattle.session_script.proofs.Hexes.{hex_no_feed}
 
@@ -148,7 +148,7 @@ words_short (Expire topic part now) is =
     omega (arith, is.0.1, n, m, a, b)
 words_short (Tick now) is = omega (arith, count_short now (omega (arith, is)))
 words_short (Arm disk after mode) is =
-    let d = name_short disk is.0 in
+    let d = name_short disk (is_disk disk is.0) in
     let n = count_short after is.1 in
     let a = length-append disk (32 ∷ (decimal after ++ 32 ∷ mode_word mode)) in
     let b = length-append (decimal after) (32 ∷ mode_word mode) in

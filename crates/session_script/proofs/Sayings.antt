@@ -11,7 +11,7 @@ use Rattle.std.proofs.lemmas.Str.Ascii.{IsAscii-nil, IsAscii-cons, IsAscii-from_
 use Rattle.std.proofs.lemmas.Fmt.{IsAscii-decimal}
 use Rattle.hex.specs.Hex.{encode_lower, lower_digits}
 use Rattle.hex.proofs.HexLemmas.{length-encode_with, IsAscii-encode_with}
-use Rattle.edge_io.specs.Names.{is_topic_byte, IsTopicName, IsDiskName}
+use Rattle.edge_io.specs.Names.{is_topic_byte, IsTopicName, IsTextName}
 use Rattle.edge_io.specs.declared.fault.FaultMode.{FaultMode}
 use Rattle.edge_io.specs.declared.fault.FaultMode.TheVariants.{Once, Torn, Dead}
 use Rattle.edge_io.proofs.Names.{name_is_ascii}
@@ -20,7 +20,7 @@ use Rattle.session_script.specs.declared.event.Event.TheVariants.{Open, Bytes, C
 use Rattle.session_script.specs.Script.{words_of, mode_word, IsEvent}
 use Rattle.session_script.specs.Lines.{HasNone, IsCut, HasNoCut, IsNoNumber, IsNumbered, IsNotNumbered, IsHex, IsNoHex}
 use Rattle.session_script.specs.Lines.{IsNoTopicWord, IsNoMode, Says, SaysNothing}
-use Rattle.session_script.proofs.Cuts.{one_cut, no_blank, lacks, lacks_none, topic_lacks, disk_lacks}
+use Rattle.session_script.proofs.Cuts.{one_cut, no_blank, lacks, lacks_none, topic_lacks, is_disk, disk_lacks}
 
 pub same_head : (a b : ℕ) (x y : List ℕ) → a ∷ x ≡ b ∷ y → a ≡ b
 same_head a b x y e = cc
@@ -115,7 +115,7 @@ module _ (rest word more : List ℕ) (first : IsCut rest word more) where
     expire_no_moment none = expire_of rest (λ topic part now is e. none now (is.2, (at_part topic part now is e).1))
 
 -- the words of a line that arms a disk
-arm_of : (rest : List ℕ) → ((disk : List ℕ) (after : ℕ) (mode : FaultMode) → IsDiskName disk → after < 2 ^ 64 →
+arm_of : (rest : List ℕ) → ((disk : List ℕ) (after : ℕ) (mode : FaultMode) → IsTextName disk → after < 2 ^ 64 →
     rest ≡ disk ++ 32 ∷ (decimal after ++ 32 ∷ mode_word mode) → ⊥) → SaysNothing (codes "arm" ++ 32 ∷ rest)
 arm_of rest h (Arm disk after mode) s = h disk after mode s.0.0 s.0.1 (same_rest (codes "arm" ++ 32 ∷ []) _ _ s.1)
 arm_of rest h event s = absurd (omega (arith, same_head _ _ _ _ s.1))
@@ -124,17 +124,17 @@ pub arm_not_cut : (rest : List ℕ) → HasNoCut rest → SaysNothing (codes "ar
 arm_not_cut rest none = arm_of rest (λ disk after mode is few e. none disk (decimal after ++ 32 ∷ mode_word mode) (disk_lacks 32 disk (λ p. omega (arith, p.0)) is, e))
 
 module _ (rest word more : List ℕ) (first : IsCut rest word more) where
-  at_disk : (disk behind : List ℕ) → IsDiskName disk → rest ≡ disk ++ 32 ∷ behind → (word ≡ disk) × (more ≡ behind)
+  at_disk : (disk behind : List ℕ) → IsTextName disk → rest ≡ disk ++ 32 ∷ behind → (word ≡ disk) × (more ≡ behind)
   at_disk disk behind is e = one_cut 32 word disk more behind first.0 (disk_lacks 32 disk (λ p. omega (arith, p.0)) is) (sym first.1 ∙ e)
 
   pub arm_cut_once : HasNoCut more → SaysNothing (codes "arm" ++ 32 ∷ rest)
   arm_cut_once none = arm_of rest (λ disk after mode is few e. none (decimal after) (mode_word mode) (no_blank after few, (at_disk disk _ is e).1))
 
-  pub arm_no_disk : (IsDiskName word → ⊥) → SaysNothing (codes "arm" ++ 32 ∷ rest)
-  arm_no_disk none = arm_of rest (λ disk after mode is few e. none (subst IsDiskName (sym (at_disk disk _ is e).0) is))
+  pub arm_no_disk : (IsTextName word → ⊥) → SaysNothing (codes "arm" ++ 32 ∷ rest)
+  arm_no_disk none = arm_of rest (λ disk after mode is few e. none (subst IsTextName (sym (at_disk disk _ is e).0) is))
 
   module _ (number last : List ℕ) (second : IsCut more number last) where
-    at_number : (disk : List ℕ) (after : ℕ) (mode : FaultMode) → IsDiskName disk → after < 2 ^ 64 → rest ≡ disk ++ 32 ∷ (decimal after ++ 32 ∷ mode_word mode) →
+    at_number : (disk : List ℕ) (after : ℕ) (mode : FaultMode) → IsTextName disk → after < 2 ^ 64 → rest ≡ disk ++ 32 ∷ (decimal after ++ 32 ∷ mode_word mode) →
         (number ≡ decimal after) × (last ≡ mode_word mode)
     at_number disk after mode is few e =
         one_cut 32 number (decimal after) last (mode_word mode) second.0 (no_blank after few) (sym second.1 ∙ (at_disk disk _ is e).1)
@@ -217,7 +217,7 @@ ascii_words (Tick now) is =
     IsAscii-append (codes "tick" ++ 32 ∷ []) (decimal now) (small_ascii (codes "tick" ++ 32 ∷ []) refl) (IsAscii-decimal now (omega (arith, is)))
 ascii_words (Arm disk after mode) is =
     IsAscii-append (codes "arm" ++ 32 ∷ []) (disk ++ 32 ∷ (decimal after ++ 32 ∷ mode_word mode)) (small_ascii (codes "arm" ++ 32 ∷ []) refl)
-    (IsAscii-append disk (32 ∷ (decimal after ++ 32 ∷ mode_word mode)) (name_is_ascii disk is.0)
+    (IsAscii-append disk (32 ∷ (decimal after ++ 32 ∷ mode_word mode)) (name_is_ascii disk (is_disk disk is.0))
     (IsAscii-cons 32 (decimal after ++ 32 ∷ mode_word mode) (lit< tt) (numbered_ascii after (mode_word mode) is.1 (mode_ascii mode))))
 ascii_words (Power choice) is =
     IsAscii-append (codes "power" ++ 32 ∷ []) (decimal choice) (small_ascii (codes "power" ++ 32 ∷ []) refl) (IsAscii-decimal choice is)

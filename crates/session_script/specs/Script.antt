@@ -7,7 +7,7 @@ use Rattle.std.specs.Prelude.{◌≡◌, ◌≢◌, ◌<◌, ◌≤◌, ◌+◌,
 use Rattle.std.specs.List.{flat_map, AllByRecursion}
 use Rattle.std.specs.Fmt.{decimal}
 use Rattle.hex.specs.Hex.{encode_lower, IsBytes}
-use Rattle.edge_io.specs.Names.{IsTopicName, IsDiskName, most_partitions}
+use Rattle.edge_io.specs.Names.{IsTopicName, IsTextName, most_partitions}
 use Rattle.edge_io.specs.declared.fault.FaultMode.{FaultMode}
 use Rattle.edge_io.specs.declared.fault.FaultMode.TheVariants.{Once, Torn, Dead}
 use Rattle.session_script.specs.declared.event.Event.{Event}
@@ -43,7 +43,7 @@ IsEvent (Close conn) = conn < 2 ^ 32
 IsEvent (Step conn now) = (conn < 2 ^ 32) × (now ≤ 2 ^ 62)
 IsEvent (Expire topic part now) = IsTopicName topic × (part < most_partitions) × (now ≤ 2 ^ 62)
 IsEvent (Tick now) = now ≤ 2 ^ 62
-IsEvent (Arm disk after mode) = IsDiskName disk × (after < 2 ^ 64)
+IsEvent (Arm disk after mode) = IsTextName disk × (after < 2 ^ 64)
 IsEvent (Power choice) = choice < 2 ^ 64
 
 abbrev pub end_line : List ℕ

@@ -280,6 +280,7 @@ impl<D: Disk> Coord<D> {
     /// Arms a fault of one of its disks, and changes nothing else; it has no log.
     pub fn arm(&mut self, disk: DiskPlace, after: u64, mode: FaultMode)
         ensures log { disk ≡ DiskPlace.Log → self.new ≡ self.old }
+        ensures log_b { disk ≡ DiskPlace.LogB → self.new ≡ self.old }
         ensures first { disk ≡ DiskPlace.StateA →
             ArmsAlone D.seen after mode self.old.journal.first.disk self.new.journal.first.disk
             × (self.new.journal.second ≡ self.old.journal.second) }

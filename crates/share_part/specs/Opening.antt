@@ -2,7 +2,7 @@
 -- For example three empty disks are opened as a shard with an empty log and no tables.
 use Rattle.std.specs.Prelude.{◌≡◌, ◌≢◌, ◌⊎◌, ℕ, List, Some, true, false}
 use Rattle.edge_io.specs.declared.name.DiskPlace.{DiskPlace}
-use Rattle.edge_io.specs.declared.name.DiskPlace.TheVariants.{Log, StateA, StateB}
+use Rattle.edge_io.specs.declared.name.DiskPlace.TheVariants.{Log, LogB, StateA, StateB}
 use Rattle.coord_checkpoint.specs.Disks.{HasFailed}
 use Rattle.share_model.specs.ForeignRules.{ShareStates}
 use Rattle.share_model.specs.Held.{Held}
@@ -45,6 +45,7 @@ StandsForLog log = (is : PartitionLog) × IsLogText log is
 -- told, the log is sound.
 abbrev pub AreDamagedAt : PartConfParts → List ℕ → List ℕ → List ℕ → DiskPlace → ℕ → Type 0
 AreDamagedAt conf log first second Log place = IsNoLogText log place
+AreDamagedAt conf log first second LogB place = ⊥
 AreDamagedAt conf log first second StateA place =
     StandsForLog log × (AreDamaged first second false place ⊎ ((place ≡ 0) × AreMisplaced conf log first second))
 AreDamagedAt conf log first second StateB place = StandsForLog log × AreDamaged first second true place

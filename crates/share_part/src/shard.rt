@@ -666,6 +666,7 @@ impl<D: Disk, W: Window> PartShard<D, W> {
         ensures log { disk ≡ DiskPlace.Log →
             ArmsAlone D.seen after mode self.old.log.journal.disk self.new.log.journal.disk
             × (self.new.states ≡ self.old.states) }
+        ensures log_b { disk ≡ DiskPlace.LogB → self.new ≡ self.old }
         ensures first { disk ≡ DiskPlace.StateA →
             ArmsAlone D.seen after mode
             self.old.states.journal.first.disk self.new.states.journal.first.disk
@@ -680,6 +681,7 @@ impl<D: Disk, W: Window> PartShard<D, W> {
     {
         match disk {
             DiskPlace::Log => self.log.arm(after, mode),
+            DiskPlace::LogB => {}
             DiskPlace::StateA => self.states.arm(disk, after, mode),
             DiskPlace::StateB => self.states.arm(disk, after, mode),
         }

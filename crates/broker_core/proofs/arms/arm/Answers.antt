@@ -11,20 +11,20 @@ use Rattle.broker_core.proofs.arms.arm.Goals as goal
 
 pub index_mut-requires : goal.index_mut-requires
 index_mut-requires g c =
-    let lt = holds_within (λ (s : PartSlot g.row.D.Denot). hosted_name s.topic s.conf.part c.in-Some.place ≡ c.args.disk.now) c.in-Some.number c.deref.result.now c.in-Some.ensures in
+    let lt = holds_within (λ (s : PartSlot g.row.D.Denot). hosted_name s.topic s.conf.part c.in-Some.place ≡ c.args.disk.now) c.in-Some.number c.deref.result.now c.in-Some.ensures.at in
     let at : c.in-Some.number < length c.args.hosts.now.parts.items = subst (λ l. c.in-Some.number < length l) c.deref.ensures.value lt in
     search rules
 
-pub arm_part-requires : goal.arm_part-requires
-arm_part-requires g c =
-    let lt = holds_within (λ (s : PartSlot g.row.D.Denot). hosted_name s.topic s.conf.part c.in-Some.place ≡ c.args.disk.now) c.in-Some.number c.deref.result.now c.in-Some.ensures in
+pub arm_part-requires-clause-open : goal.arm_part-requires-clause-open
+arm_part-requires-clause-open g c =
+    let lt = holds_within (λ (s : PartSlot g.row.D.Denot). hosted_name s.topic s.conf.part c.in-Some.place ≡ c.args.disk.now) c.in-Some.number c.deref.result.now c.in-Some.ensures.at in
     let at : c.in-Some.number < length c.args.hosts.now.parts.items = subst (λ l. c.in-Some.number < length l) c.deref.ensures.value lt in
     let is : c.index_mut.result.now ≡ get_or c.args.hosts.now.parts.items c.in-Some.number c.index_mut.result.now = search rules in
     all_at (λ (s : PartSlot g.row.D.Denot). IsOpenState s.state) c.in-Some.number c.args.hosts.now.parts.items c.index_mut.result.now c.requires.open.parts at is
 
 pub returns-in-Some-clause-ok : goal.returns-in-Some-clause-ok
 returns-in-Some-clause-ok g c =
-    let there = subst (λ l. HoldsAt c.in-Some.number (λ (s : PartSlot g.row.D.Denot). hosted_name s.topic s.conf.part c.in-Some.place ≡ c.args.disk.now) l) c.deref.ensures.value c.in-Some.ensures in
+    let there = subst (λ l. HoldsAt c.in-Some.number (λ (s : PartSlot g.row.D.Denot). hosted_name s.topic s.conf.part c.in-Some.place ≡ c.args.disk.now) l) c.deref.ensures.value c.in-Some.ensures.at in
     let lt = holds_within (λ (s : PartSlot g.row.D.Denot). hosted_name s.topic s.conf.part c.in-Some.place ≡ c.args.disk.now) c.in-Some.number c.args.hosts.now.parts.items there in
     let is : c.index_mut.result.now ≡ get_or c.args.hosts.now.parts.items c.in-Some.number c.index_mut.result.now = search rules in
     let changes = changes_set (ArmsSlot g.D.Disk.seen c.in-Some.place c.args.after c.args.mode)
@@ -34,7 +34,7 @@ returns-in-Some-clause-ok g c =
 
 pub returns-in-Some-clause-disks : goal.returns-in-Some-clause-disks
 returns-in-Some-clause-disks g c =
-    let there = subst (λ l. HoldsAt c.in-Some.number (λ (s : PartSlot g.row.D.Denot). hosted_name s.topic s.conf.part c.in-Some.place ≡ c.args.disk.now) l) c.deref.ensures.value c.in-Some.ensures in
+    let there = subst (λ l. HoldsAt c.in-Some.number (λ (s : PartSlot g.row.D.Denot). hosted_name s.topic s.conf.part c.in-Some.place ≡ c.args.disk.now) l) c.deref.ensures.value c.in-Some.ensures.at in
     let lt = holds_within (λ (s : PartSlot g.row.D.Denot). hosted_name s.topic s.conf.part c.in-Some.place ≡ c.args.disk.now) c.in-Some.number c.args.hosts.now.parts.items there in
     let is : c.index_mut.result.now ≡ get_or c.args.hosts.now.parts.items c.in-Some.number c.index_mut.result.now = search rules in
     let changes = changes_set (ArmsSlot g.D.Disk.seen c.in-Some.place c.args.after c.args.mode)
@@ -47,7 +47,7 @@ returns-in-Some-clause-disks g c =
 
 pub returns-in-Some-clause-stays : goal.returns-in-Some-clause-stays
 returns-in-Some-clause-stays g c =
-    let there = subst (λ l. HoldsAt c.in-Some.number (λ (s : PartSlot g.row.D.Denot). hosted_name s.topic s.conf.part c.in-Some.place ≡ c.args.disk.now) l) c.deref.ensures.value c.in-Some.ensures in
+    let there = subst (λ l. HoldsAt c.in-Some.number (λ (s : PartSlot g.row.D.Denot). hosted_name s.topic s.conf.part c.in-Some.place ≡ c.args.disk.now) l) c.deref.ensures.value c.in-Some.ensures.at in
     let lt = holds_within (λ (s : PartSlot g.row.D.Denot). hosted_name s.topic s.conf.part c.in-Some.place ≡ c.args.disk.now) c.in-Some.number c.args.hosts.now.parts.items there in
     let is : c.index_mut.result.now ≡ get_or c.args.hosts.now.parts.items c.in-Some.number c.index_mut.result.now = search rules in
     let changes = changes_set (ArmsSlot g.D.Disk.seen c.in-Some.place c.args.after c.args.mode)
@@ -60,14 +60,14 @@ returns-in-Some-clause-stays g c =
 
 pub returns-in-None-clause-ok : goal.returns-in-None-clause-ok
 returns-in-None-clause-ok g c =
-    let away = subst (λ l. NotIn (part_disks (hosted_slots l)) c.args.disk.now) c.deref.ensures.value c.in-None.ensures in
+    let away = subst (λ l. NotIn (part_disks (hosted_slots l)) c.args.disk.now) c.deref.ensures.value c.in-None.ensures.at in
     arms_state g.D.Disk.seen
     (parts_of c.args.hosts.now) (record { parts = c.args.hosts.now.parts.items; members = c.args.hosts.now.members; foreign = c.arm_foreign.new.slot })
     c.args.disk.now c.args.after c.args.mode away c.arm_foreign.ensures refl refl c.requires.apart
 
 pub returns-in-None-clause-disks : goal.returns-in-None-clause-disks
 returns-in-None-clause-disks g c =
-    let away = subst (λ l. NotIn (part_disks (hosted_slots l)) c.args.disk.now) c.deref.ensures.value c.in-None.ensures in
+    let away = subst (λ l. NotIn (part_disks (hosted_slots l)) c.args.disk.now) c.deref.ensures.value c.in-None.ensures.at in
     arms_state_on g.D.Disk.seen
     (parts_of c.args.hosts.now) (record { parts = c.args.hosts.now.parts.items; members = c.args.hosts.now.members; foreign = c.arm_foreign.new.slot })
     c.args.disk.now c.args.after c.args.mode away c.arm_foreign.ensures refl refl c.requires.apart

@@ -11,7 +11,7 @@ returns g c = record {
   topic = refl;
   conf = refl;
   arms_disk = place_of_arm g.D.Disk.seen
-      c.args.after c.args.mode c.in-Open.part c.arm.new.self c.args.place c.arm.ensures.log c.arm.ensures.first c.arm.ensures.second;
+      c.args.after c.args.mode c.in-Open.part c.arm.new.self c.args.place c.arm.ensures.log c.arm.ensures.first c.arm.ensures.second c.requires.of_text;
   ends = c.arm.ensures.ends;
   part_conf = c.arm.ensures.conf;
   stays = c.arm.ensures.stays;
