@@ -23,7 +23,7 @@ use crate::replay::Replay;
 use crate::states::States;
 use crate::store::Store;
 use crate::view::StateView;
-use coord_checkpoint::CoordOpen;
+use coord_checkpoint::{CoordOpen, FaultCounts};
 use edge_io::{Disk, DiskPlace, FaultMode};
 use offset_runs::Runs;
 use share_model::{Key, NoMemory, Run, StoreFault};
@@ -275,6 +275,14 @@ impl<D: Disk> Coord<D> {
         ensures { (result ≡ true) ↔ (((D.seen self.now.journal.first.disk).starved ≡ true) ⊎ ((D.seen self.now.journal.second.disk).starved ≡ true)) }
     {
         self.store.journal.starved()
+    }
+
+    /// The count of faults of each of its disks.
+    pub fn faults(&self) -> FaultCounts
+        ensures first { result.first ≡ (D.seen self.now.journal.first.disk).faults }
+        ensures second { result.second ≡ (D.seen self.now.journal.second.disk).faults }
+    {
+        self.store.journal.faults()
     }
 
     /// Arms a fault of one of its disks, and changes nothing else; it has no log.

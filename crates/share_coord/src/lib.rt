@@ -18,7 +18,7 @@ mod view;
 mod walk;
 
 pub use coord::Coord;
-pub use coord_checkpoint::CoordOpen;
+pub use coord_checkpoint::{CoordOpen, FaultCounts};
 pub use fault::CoordFault;
 pub use laws::a_write_stores_one_record;
 pub use rows::complete_of;
