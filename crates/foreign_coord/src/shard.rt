@@ -20,7 +20,7 @@ use crate::batches::runs_of;
 use crate::codes::{alone, answer, refusal};
 use edge_io::{Disk, DiskPlace, FaultMode};
 use flex_fields::Items;
-use share_coord::{Coord, CoordOpen, StateView, States};
+use share_coord::{Coord, CoordOpen, FaultCounts, StateView, States};
 use share_model::{Code, ForeignAnswer, ForeignOp, Key, NoMemory, StateBatchList};
 use std::alloc::Global;
 use std::marker::Model;
@@ -229,6 +229,14 @@ impl<D: Disk> ForeignShard<D> {
         ensures { (result ≡ true) ↔ (((D.seen self.now.journal.first.disk).starved ≡ true) ⊎ ((D.seen self.now.journal.second.disk).starved ≡ true)) }
     {
         self.coord.starved()
+    }
+
+    /// The count of faults of each of its disks.
+    pub fn faults(&self) -> FaultCounts
+        ensures first { result.first ≡ (D.seen self.now.journal.first.disk).faults }
+        ensures second { result.second ≡ (D.seen self.now.journal.second.disk).faults }
+    {
+        self.coord.faults()
     }
 
     /// Arms a fault of one of its disks, and changes nothing else; it has no log.

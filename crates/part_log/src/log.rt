@@ -392,6 +392,13 @@ impl<D: Disk> PartLog<D> {
         self.journal.starved()
     }
 
+    /// The count of faults of its disk.
+    pub fn faults(&self) -> u64
+        ensures { result ≡ (D.seen self.now.journal.disk).faults }
+    {
+        self.journal.faults()
+    }
+
     /// Arms a fault of its disk, and changes nothing else.
     pub fn arm(&mut self, after: u64, mode: FaultMode)
         ensures disk { ArmsAlone D.seen after mode self.old.journal.disk self.new.journal.disk }
