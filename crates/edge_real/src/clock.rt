@@ -1,20 +1,26 @@
 ghost use Rattle.std.specs.Prelude.{◌≤◌, ◌^◌, None};
 
+use crate::notices::SocketNotices;
 use edge_io::Clock as Moments;
 use std::thread;
 use std::time::{Clock, Duration, SystemTime};
 
 /// The system's clock, in milliseconds since 1970. Where it can't be read, it answers the moment that it read last, 0
-/// at first. It tells no answers.
+/// at first. It tells no answers; each pause is told to a program's notices.
 #[derive(Drop)]
-pub struct SystemClock<R> {
+pub struct SystemClock<R, N> {
     rt: R,
+    notices: N,
     last: u64,
 }
 
-impl<R> SystemClock<R> {
-    pub fn new(rt: R) -> SystemClock<R> {
-        SystemClock { rt, last: 0 }
+impl<R, N> SystemClock<R, N> {
+    pub fn new(rt: R, notices: N) -> SystemClock<R, N> {
+        SystemClock {
+            rt,
+            notices,
+            last: 0,
+        }
     }
 }
 
@@ -35,7 +41,7 @@ fn read<R: Clock>(rt: &R) -> Option<u64> {
     Some(bounded(since.as_millis()))
 }
 
-impl<R: Clock + Copy> Moments for SystemClock<R> {
+impl<R: Clock + Copy, N: SocketNotices> Moments for SystemClock<R, N> {
     ghost told = { λ _. None };
 
     fn now_ms(&mut self) -> u64 {
@@ -45,14 +51,16 @@ impl<R: Clock + Copy> Moments for SystemClock<R> {
         bounded(u128::from(self.last))
     }
 
-    fn another(&self) -> SystemClock<R> {
+    fn another(&self) -> SystemClock<R, N> {
         SystemClock {
             rt: self.rt,
+            notices: self.notices.for_clock(),
             last: self.last,
         }
     }
 
     fn pause(&mut self, ms: u32) {
+        self.notices.pausing();
         thread::sleep(&self.rt, Duration::from_millis(u64::from(ms)));
     }
 }

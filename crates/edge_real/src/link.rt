@@ -25,6 +25,7 @@ pub struct TcpLink<S, N: SocketNotices> {
     ended: bool,
     faults: u64,
     is_told: bool,
+    is_begun: bool,
 }
 
 impl<S, N: SocketNotices> Model for TcpLink<S, N> {
@@ -47,6 +48,7 @@ impl<S, N: SocketNotices> TcpLink<S, N> {
             ended: false,
             faults: 0,
             is_told: false,
+            is_begun: false,
         }
     }
 
@@ -58,6 +60,9 @@ impl<S, N: SocketNotices> TcpLink<S, N> {
 
 impl<S: Drop, N: SocketNotices + Drop> Drop for TcpLink<S, N> {
     fn drop(self) {
+        if !self.is_begun {
+            self.notices.begun();
+        }
         if !self.ended && self.faults == 0 && !self.is_told {
             self.notices.closed(self.peer, None);
         }
@@ -68,6 +73,7 @@ impl<S: Drop, N: SocketNotices + Drop> Drop for TcpLink<S, N> {
             ended: _,
             faults: _,
             is_told: _,
+            is_begun: _,
         } = self;
     }
 }
@@ -112,6 +118,10 @@ impl<S: Read + Write + OpenStream, N: SocketNotices> Link for TcpLink<S, N> {
         ensures cause { HasCause self.old.faults self.new.faults result }
         ensures faults { CountsFault self.old.faults self.new.faults result }
     {
+        if !self.is_begun {
+            self.is_begun = true;
+            self.notices.begun();
+        }
         match read_retrying(&mut self.stream, into) {
             Ok(count) => {
                 self.ended = self.ended | is_end(count, into);

@@ -20,8 +20,17 @@ pub trait SocketNotices: Sized {
     /// reason, or unserved where there is none.
     fn closed(&self, peer: SocketAddr, reason: Option<CloseReason>);
 
-    /// What a link tells its faults by. The link may go to another thread.
+    /// What a link that was accepted tells by. The link may go to another thread.
     fn for_link(&self) -> Self;
+
+    /// The link that tells by this one is read for the first time, or is closed unread.
+    fn begun(&self);
+
+    /// What another clock tells by. It may go to another thread.
+    fn for_clock(&self) -> Self;
+
+    /// A clock pauses, as it does each second or so.
+    fn pausing(&self);
 }
 
 /// Nothing is told.
@@ -42,4 +51,12 @@ impl SocketNotices for NoNotices {
     fn for_link(&self) -> NoNotices {
         NoNotices
     }
+
+    fn begun(&self) {}
+
+    fn for_clock(&self) -> NoNotices {
+        NoNotices
+    }
+
+    fn pausing(&self) {}
 }

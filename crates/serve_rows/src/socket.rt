@@ -42,6 +42,14 @@ impl SocketNotices for Ports {
     fn for_link(&self) -> Ports {
         Ports { board: None }
     }
+
+    fn begun(&self) {}
+
+    fn for_clock(&self) -> Ports {
+        Ports { board: None }
+    }
+
+    fn pausing(&self) {}
 }
 
 /// Takes a line of a client.

@@ -1,5 +1,6 @@
 // What the program says on standard error, where it doesn't end with status 0.
 use crate::usage::usage_text;
+use crate::wrong::wrong;
 use edge_real::{FolderFault, ReaderSource, SystemFault, WriterSink};
 use share_top::Address;
 use std::io::{Read, Write};
@@ -14,13 +15,13 @@ const MALFORMED: u8 = 3;
 const READ_FAULT: u8 = 4;
 
 /// The status where the output failed.
-const WRITE_FAULT: u8 = 5;
+pub const WRITE_FAULT: u8 = 5;
 
 /// The status where the content of a disk isn't store text.
-const DAMAGED: u8 = 6;
+pub const DAMAGED: u8 = 6;
 
 /// The status where a disk or the bay failed.
-const DEVICE: u8 = 7;
+pub const DEVICE: u8 = 7;
 
 /// The status where no memory is found.
 pub const NO_MEMORY: u8 = 8;
@@ -48,6 +49,7 @@ pub struct Faults<'a> {
     folder: Option<FolderFault<'a>>,
     listener: Option<(&'a Address, SystemFault)>,
     spawner: Option<SystemFault>,
+    words: &'a [String],
 }
 
 impl<'a> Faults<'a> {
@@ -63,6 +65,7 @@ impl<'a> Faults<'a> {
             folder,
             listener: None,
             spawner: None,
+            words: &[],
         }
     }
 
@@ -73,6 +76,11 @@ impl<'a> Faults<'a> {
             None => None,
         };
         Faults { listener, ..self }
+    }
+
+    /// The same of these words of the command line.
+    pub fn with_words(self, words: &'a [String]) -> Faults<'a> {
+        Faults { words, ..self }
     }
 
     /// The same with the last fault of starting a thread.
@@ -122,10 +130,17 @@ fn tell_spawner(rt: &HostRuntime, fault: Option<SystemFault>) {
     };
 }
 
-// The usage text, behind a line.
-fn tell_usage(rt: &HostRuntime) {
+// The usage text of the command, behind a line, and one that says which word is wrong.
+fn tell_usage(rt: &HostRuntime, words: &[String]) {
     tell(rt, "bad words");
-    if let Ok(text) = usage_text(rt.alloc()) {
+    if let Ok(Some(text)) = wrong(rt.alloc(), words) {
+        tell(rt, text.as_str());
+    }
+    let name = match words.first() {
+        Some(name) => name.as_str(),
+        None => "",
+    };
+    if let Ok(text) = usage_text(rt.alloc(), name) {
         let _ = eprint!(rt; "{text}");
     }
 }
@@ -134,7 +149,7 @@ fn tell_usage(rt: &HostRuntime) {
 /// said of an input that isn't what the command reads.
 pub fn tell_status(rt: &HostRuntime, status: u8, malformed: &str, faults: Faults<'_>) -> u8 {
     match status {
-        USAGE => tell_usage(rt),
+        USAGE => tell_usage(rt, faults.words),
         MALFORMED => tell(rt, malformed),
         READ_FAULT => tell_stream(rt, "standard input", faults.input),
         WRITE_FAULT => tell_stream(rt, "standard output", faults.output),

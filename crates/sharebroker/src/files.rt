@@ -77,6 +77,10 @@ impl Folders for ToldFolders<'_> {
         })
     }
 
+    fn has_file(&self, path: &str) -> io::Result<bool> {
+        self.system.has_file(path)
+    }
+
     fn sync_folder(&mut self, path: &str) -> io::Result<()> {
         self.system.sync_folder(path)
     }

@@ -6,15 +6,21 @@ ghost use Rattle.edge_mem.specs.Bays.{out_at};
 ghost use Rattle.edge_real.specs.Folders.{out_at as out_of_folder};
 ghost use Rattle.share_top.specs.Words.{AreOfServe};
 
+mod asked;
 mod ending;
 mod files;
+mod looking;
 mod notices;
 mod server;
 mod usage;
+mod wrong;
 
+use asked::answer;
+use edge_io::write_all;
 use edge_mem::MemBay;
 use edge_real::{FolderBay, ReaderSource, SystemFolders, WriterSink};
-use ending::{Faults, NO_MEMORY, NO_SCRIPT, NO_SEGMENT, USAGE, tell_status};
+use ending::{Faults, NO_MEMORY, NO_SCRIPT, NO_SEGMENT, USAGE, WRITE_FAULT, tell_status};
+use looking::look;
 use server::serve_over_tcp;
 use share_top::{BayChoice, bay_choice, run_alone, serve_words};
 use std::env;
@@ -65,8 +71,12 @@ fn perform<R: Read, W: Write>(
     let Some(folder) = folder_word(words) else {
         let mut bay = memory_bay(rt);
         let status = run_alone(rt.alloc(), words, input, output, &mut bay);
-        return tell_status(rt, status, NO_SCRIPT, Faults::of(input, output, None));
+        let faults = Faults::of(input, output, None).with_words(words);
+        return tell_status(rt, status, NO_SCRIPT, faults);
     };
+    if let Some(status) = look(rt, words, folder.as_str(), input, output) {
+        return status;
+    }
     let Ok(folder) = folder.clone() else {
         return tell_status(rt, NO_MEMORY, NO_SEGMENT, Faults::of(input, output, None));
     };
@@ -76,8 +86,21 @@ fn perform<R: Read, W: Write>(
         rt,
         status,
         NO_SEGMENT,
-        Faults::of(input, output, bay.last_fault()),
+        Faults::of(input, output, bay.last_fault()).with_words(words),
     )
+}
+
+// Tells a text on standard output, and gives the status.
+fn told<R: Read, W: Write>(
+    rt: &HostRuntime,
+    text: &str,
+    input: &ReaderSource<R>,
+    output: &mut WriterSink<W>,
+) -> u8 {
+    match write_all(output, text.as_bytes()) {
+        Ok(()) => 0,
+        Err(_) => tell_status(rt, WRITE_FAULT, NO_SCRIPT, Faults::of(input, output, None)),
+    }
 }
 
 fn main(rt: HostRuntime) -> ExitCode {
@@ -95,6 +118,9 @@ fn main(rt: HostRuntime) -> ExitCode {
             return ExitCode::from(tell_status(&rt, status, NO_SCRIPT, faults));
         }
     };
+    if let Ok(Some(text)) = answer(&rt, &words) {
+        return ExitCode::from(told(&rt, text.as_str(), &input, &mut output));
+    }
     let status = match serve_words(rt.alloc(), &words) {
         Ok(None) => perform(&rt, &words, &mut input, &mut output),
         Ok(Some((listen, served))) => {

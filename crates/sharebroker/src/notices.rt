@@ -1,4 +1,5 @@
 // What a server says on standard error as it goes: that it listens, and the faults of its sockets and files.
+use edge_io::CloseReason;
 use edge_real::{SocketNotices, SystemFault};
 use std::alloc::Global;
 use std::net::SocketAddr;
@@ -15,6 +16,14 @@ pub struct Pace {
     second: AtomicU64,
     told: AtomicU64,
     left_out: AtomicU64,
+    // The tries to accept a client that failed since one was accepted.
+    refused: AtomicU64,
+    // The clients that were accepted, and those that a worker has begun with.
+    accepted: AtomicU64,
+    begun: AtomicU64,
+    // The clients that were accepted up to the last look, and how many were told to wait.
+    looked: AtomicU64,
+    told_waiting: AtomicU64,
 }
 
 impl Pace {
@@ -23,7 +32,28 @@ impl Pace {
             second: AtomicU64::new(0),
             told: AtomicU64::new(0),
             left_out: AtomicU64::new(0),
+            refused: AtomicU64::new(0),
+            accepted: AtomicU64::new(0),
+            begun: AtomicU64::new(0),
+            looked: AtomicU64::new(0),
+            told_waiting: AtomicU64::new(0),
         }
+    }
+
+    // How many clients wait, where one has waited since the last look, a second ago, and not as many were told.
+    fn waiting(&self) -> u64 {
+        let begun = self.begun.load(Ordering::SeqCst);
+        let accepted = self.accepted.load(Ordering::SeqCst);
+        let before = self.looked.swap(accepted, Ordering::SeqCst);
+        let waiting = if before > begun {
+            accepted.saturating_sub(begun)
+        } else {
+            0
+        };
+        if self.told_waiting.swap(waiting, Ordering::SeqCst) == waiting {
+            return 0;
+        }
+        waiting
     }
 
     // Whether one more fault may have a line in this second.
@@ -133,10 +163,15 @@ impl SocketNotices for Teller {
     }
 
     fn waiting(&self, fault: SystemFault) {
-        self.tell_fault(
-            "a client couldn't be accepted, and it is tried again",
-            fault,
-        );
+        let Some(pace) = &self.pace else {
+            return;
+        };
+        if pace.refused.fetch_add(1, Ordering::SeqCst) == 0 {
+            self.tell_fault(
+                "a client couldn't be accepted, and it is tried again",
+                fault,
+            );
+        }
     }
 
     fn failed(&self, peer: SocketAddr, fault: SystemFault) {
@@ -146,17 +181,60 @@ impl SocketNotices for Teller {
         self.tell_fault(peer.as_str(), fault);
     }
 
-    fn closed(&self, peer: SocketAddr) {
+    fn idle(&self, peer: SocketAddr) {
         if !self.admits() {
             return;
         }
         let rt = &self.rt;
-        let _ = eprintln!(rt;
-            "sharebroker: {peer}: closed, as what it sent is no request, or no memory was found for it"
-        );
+        let _ = eprintln!(rt; "sharebroker: {peer}: closed, as nothing came from it for so long");
+    }
+
+    fn closed(&self, peer: SocketAddr, reason: Option<CloseReason>) {
+        if !self.admits() {
+            return;
+        }
+        let rt = &self.rt;
+        let _ = match reason {
+            Some(reason) => eprintln!(rt; "sharebroker: {peer}: closed, as {reason}"),
+            None => eprintln!(rt; "sharebroker: {peer}: closed before it was served"),
+        };
     }
 
     fn for_link(&self) -> Teller {
+        if let Some(pace) = &self.pace {
+            pace.accepted.fetch_add(1, Ordering::SeqCst);
+            let refused = pace.refused.swap(0, Ordering::SeqCst);
+            if refused > 1 {
+                let rt = &self.rt;
+                let _ = eprintln!(rt;
+                    "sharebroker: clients are accepted again, behind {refused} tries"
+                );
+            }
+        }
         self.again()
+    }
+
+    fn begun(&self) {
+        if let Some(pace) = &self.pace {
+            pace.begun.fetch_add(1, Ordering::SeqCst);
+        }
+    }
+
+    fn for_clock(&self) -> Teller {
+        self.again()
+    }
+
+    fn pausing(&self) {
+        if let Some(pace) = &self.pace {
+            let waiting = pace.waiting();
+            if waiting > 0 {
+                let (rt, workers) = (&self.rt, self.workers);
+                let many = if waiting == 1 { " waits" } else { "s wait" };
+                let more = plural(workers);
+                let _ = eprintln!(rt;
+                    "sharebroker: {waiting} connection{many} for one of {workers} worker{more}"
+                );
+            }
+        }
     }
 }

@@ -4,6 +4,7 @@ ghost use Rattle.edge_real.specs.Folders.{out_at};
 
 use crate::ending::{Faults, NO_MEMORY, NO_SEGMENT, tell_status};
 use crate::files::ToldFolders;
+use crate::looking::look;
 use crate::notices::{Pace, Teller};
 use edge_real::{
     FolderBay, ReaderSource, SystemClock, SystemFolders, TcpLinks, ThreadSpawner, WriterSink,
@@ -14,7 +15,7 @@ use std::io::{Read, Write};
 use std::net::{Net, TcpListener, TcpStream};
 use std::sync::{Arc, Wait};
 use std::thread::Threads;
-use std::time::Clock;
+use std::time::{Clock, Duration};
 
 // How many partitions a server has.
 fn partitions(words: &ServeWords) -> u32 {
@@ -23,6 +24,17 @@ fn partitions(words: &ServeWords) -> u32 {
         all = all.saturating_add(topic.parts);
     }
     all
+}
+
+// How long a connection may be silent, in milliseconds.
+const IDLE_MS: u32 = 600_000;
+
+// How long a connection may be silent, which is at least as long as a lock lasts. 0 is for ever.
+fn idle_time(idle_ms: u32, lock_ms: u32) -> Option<Duration> {
+    if idle_ms == 0 {
+        return None;
+    }
+    Some(Duration::from_millis(u64::from(idle_ms.max(lock_ms))))
 }
 
 // Tells of a server's connections and files.
@@ -80,9 +92,13 @@ pub fn serve_over_tcp<
     let Ok((teller, folder, host)) = prepared(rt, listen, served, folder) else {
         return tell_status(rt, NO_MEMORY, NO_SEGMENT, Faults::of(input, output, None));
     };
+    if let Some(status) = look(rt, words, folder.as_str(), input, output) {
+        return status;
+    }
     let mut bay = folder_bay(rt, folder, teller.again());
-    let mut listener = TcpLinks::new(*handle, host, listen.port, teller.again());
-    let mut clock = SystemClock::new(*handle);
+    let idle = idle_time(IDLE_MS, served.conf.lock_ms());
+    let mut listener = TcpLinks::new(*handle, host, listen.port, idle, teller.again());
+    let mut clock = SystemClock::new(*handle, teller.again());
     let mut spawner = ThreadSpawner::new(*handle);
     let status = run(
         handle,

@@ -216,12 +216,38 @@ fn add(alloc: Global, text: &mut String, usage: &Usage) -> Result<(), AllocError
     text.push_str("\n")
 }
 
-/// The usage text: each command with its options, the words behind them and an example, and what topics are.
-pub fn usage_text(alloc: Global) -> Result<String, AllocError> {
-    let mut text = String::new(alloc);
+/// Whether there is a command of this name.
+pub fn is_command(name: &str) -> bool {
+    COMMANDS.iter().any(|usage| usage.name == name)
+}
+
+/// The options of a command, without the dashes before them.
+pub fn options_of(alloc: Global, name: &str) -> Result<Vec<&'static str>, AllocError> {
+    let mut options = Vec::new(alloc);
     for usage in &COMMANDS {
-        add(alloc, &mut text, usage)?;
+        if usage.name == name {
+            for word in usage.words {
+                if let Some(option) = word.option {
+                    options.push(option)?;
+                }
+            }
+        }
     }
-    text.push_str(ABOUT_TOPICS)?;
+    Ok(options)
+}
+
+/// The usage text: each command, or the one of this name where there is one, with its options, the words behind them
+/// and an example, and what topics are.
+pub fn usage_text(alloc: Global, name: &str) -> Result<String, AllocError> {
+    let mut text = String::new(alloc);
+    let one = is_command(name);
+    for usage in &COMMANDS {
+        if !one || usage.name == name {
+            add(alloc, &mut text, usage)?;
+        }
+    }
+    if name != "gen" {
+        text.push_str(ABOUT_TOPICS)?;
+    }
     Ok(text)
 }
