@@ -313,6 +313,125 @@ class ServeCase(unittest.TestCase):
         self.assertEqual(got, [(0, b"a", 2), (1, b"b", 2), (2, b"c", 2)])
         self.assertEqual(holder.acknowledge(0, 2), 121)
 
+    def test_a_lock_lasts_as_many_milliseconds_as_the_words_say(self):
+        server = self.server("--lock-ms", "2000")
+        holder, other = self.member(server, "a"), self.member(server, "b")
+        holder.produce(b"a")
+        begun = time.monotonic()
+        self.assertEqual(len(holder.fetch()), 1)
+        within(other.fetch, "the record whose lock has ended")
+        # Turns of expiries are a second apart. A busy machine may be late.
+        self.assertGreaterEqual(time.monotonic() - begun, 2)
+        self.assertLess(time.monotonic() - begun, 20)
+
+    def traced(self, server, calls, acts):
+        """The lines of a trace of these system calls, while the acts are done. Where strace is missing or may not
+        trace, the test is left out."""
+        if shutil.which("strace") is None:
+            self.skipTest("there is no strace")
+        path = os.path.join(self.folder, "calls")
+        words = ["strace", "-f", "-y", "-e", f"trace={calls}", "-o", path, "-p", str(server.process.pid)]
+        with open(os.path.join(self.folder, "tracer"), "w+") as told:
+            tracer = subprocess.Popen(words, stdin=subprocess.DEVNULL, stderr=told)
+            self.addCleanup(tracer.wait)
+            self.addCleanup(tracer.kill)
+
+            def attached():
+                told.seek(0)
+                return "attached" in told.read() or tracer.poll() is not None
+
+            within(attached, "the tracer")
+            if tracer.poll() is not None:
+                self.skipTest("strace may not trace")
+            acts()
+            tracer.send_signal(signal.SIGINT)
+            tracer.wait(PATIENCE)
+        with open(path) as lines:
+            return lines.read().splitlines()
+
+    def synced(self, server, acts):
+        """How often each file of the folder is synced, while the acts are done."""
+        counts = {}
+        for line in self.traced(server, "fsync,fdatasync", acts):
+            found = re.search(r"f(?:data)?sync\(\d+<(.*)>", line)
+            if found:
+                name = os.path.relpath(found.group(1), os.path.realpath(os.path.join(self.folder, "data")))
+                counts[name] = counts.get(name, 0) + 1
+        return counts
+
+    def test_each_change_of_a_table_is_synced_twice(self):
+        server = self.server()
+        member = self.member(server)
+        member.produce(b"a", b"b", b"c")
+        self.assertEqual(len(member.fetch()), 3)
+        codes = []
+        counts = self.synced(server, lambda: codes.extend(member.acknowledge(at, at) for at in range(3)))
+        self.assertEqual((codes, counts), ([0, 0, 0], {"orders/0/state-a": 6}))
+
+    def test_a_checkpoint_and_the_change_behind_it_are_synced_ten_times(self):
+        """Of foreign state, which has 4098 records of one key: snapshots and removals of it in turn, and an update."""
+        key = b"\0\1g" + b"\x11" * 16 + bytes(4)
+        states = bytes(16) + bytes(8) + bytes(4)
+        frames = [b"\0\0" + key + states, b"\2\0" + key] * 2048
+        frames += [b"\0\0" + key + states, b"\1\0" + key + bytes(16) + b"\xff" * 8 + bytes(4)]
+        os.makedirs(os.path.join(self.folder, "data", "foreign"))
+        with open(os.path.join(self.folder, "data", "foreign", "state-a"), "wb") as file:
+            file.write(b"".join(b"\1" + struct.pack(">I", len(frame)) + frame for frame in frames) + b"\0")
+        server = self.server()
+        stream = self.raw(server)
+        # WriteShareGroupState 0 of g on 1111/0: state epoch 0, leader epoch 0, start -1, 1..1 acknowledged 1.
+        offset = "0000000000000001"
+        write = bytes.fromhex("0000004b0055000000000001ffff00026702" + "11" * 16 + "02" + "00" * 12 + "ff" * 8
+                              + "02" + offset * 2 + "02000100" + "000000")
+        replies = []
+
+        def acts():
+            for _ in range(2):
+                stream.sendall(write)
+                replies.append(stream.recv(37))
+
+        counts = self.synced(server, acts)
+        reply = bytes.fromhex("00000021" + "00000001" + "0002" + "11" * 16 + "02" + "00" * 4 + "0000" + "00" * 4)
+        self.assertEqual(replies, [reply, reply])
+        # Its first gate, the cut, head, snapshot and seal, and then each change.
+        self.assertEqual(counts, {"foreign/state-b": 2 + 3 * 2 + 2 * 2})
+
+    def test_turns_of_expiries_are_a_second_apart(self):
+        server = self.server()
+        lines = self.traced(server, "nanosleep,clock_nanosleep", lambda: time.sleep(3.5))
+        pauses = [line for line in lines if "tv_sec" in line and "restart_syscall" not in line]
+        self.assertEqual([line for line in pauses if "{tv_sec=1, tv_nsec=0}" not in line], [])
+        self.assertIn(len(pauses), range(2, 5), lines)
+
+    def test_a_reply_that_the_socket_takes_in_pieces(self):
+        """A write that waits for room in the socket is cut short where the process is stopped; its rest follows."""
+        server = self.server()
+        producer = self.member(server, "p")
+        for number in range(8):
+            producer.produce(b"%d" % number * 1000000)
+        with open(os.path.join(self.folder, "data", "orders", "0", "log"), "rb") as file:
+            log, batches = file.read(), []
+        while log[:1] == b"\1":
+            end = 5 + int.from_bytes(log[1:5], "big")
+            batches.append(log[5:end])
+            log = log[end:]
+        stream = self.raw(server)
+        # ShareFetch 1 of a, session epoch 0, of orders/0, at most 500 records of 16 MiB.
+        stream.sendall(bytes.fromhex("00000042004e000100000001ffff00026702610000000000000000000000010100000000"
+                                     "0001f4000001f402" + "22" * 16 + "0200000000010000" + "0100"))
+        for _ in range(3):
+            time.sleep(0.3)
+            server.process.send_signal(signal.SIGSTOP)
+            time.sleep(0.1)
+            server.process.send_signal(signal.SIGCONT)
+        got = b""
+        while len(got) < 4 or len(got) < 4 + int.from_bytes(got[:4], "big"):
+            piece = stream.recv(1 << 20)
+            self.assertTrue(piece, "the connection is closed")
+            got += piece
+        self.assertEqual(len(batches), 8)
+        self.assertTrue(b"".join(batches) in got, "the reply has other bytes than the log")
+
     def stream(self, server, name, answered):
         """Produces values and accepts what it fetches, until the server is gone. What was answered is noted."""
         member = self.member(server, name)
