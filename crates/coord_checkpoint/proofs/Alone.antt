@@ -1,22 +1,19 @@
 -- A write with no checkpoint before it, and a checkpoint with no write behind it.
-use Rattle.std.proofs.Common.{◌≡◌, ◌⊎◌, inl, inr, ⊎_elim, refl, sym, ap, ◌∙◌, subst, arith, ℕ, ◌+◌, ◌*◌, ◌<◌, ◌≤◌, ◌^◌, Bool, true, false, not, List, [], ◌∷◌, length, length-append, Option, Some, None, Result, Ok, Err, OnOk}
+use Rattle.std.proofs.Common.{◌≡◌, ◌⊎◌, inl, inr, ⊎_elim, refl, sym, ap, ◌∙◌, subst, arith, ℕ, ◌+◌, ◌*◌, ◌<◌, ◌≤◌, ◌^◌, Bool, true, false, not, List, [], ◌∷◌, length, length-append, Option, Some, None, Result, OnOk}
 use Rattle.std.specs.Prelude.{if◌then◌else◌}
 use Rattle.edge_io.specs.Armed.{RunsOn}
-use Rattle.edge_io.specs.Counting.{MakesCalls}
 use Rattle.edge_io.specs.Moments.{LeavesOnly, LeavesPairs}
 use Rattle.edge_io.specs.Views.{DiskView}
 use Rattle.edge_io.proofs.Moments.{started, weakened}
 use Rattle.edge_io.proofs.Runs.{runs_none}
 use Rattle.gate_journal.specs.Journals.{IsQuiet}
 use Rattle.gate_journal.specs.declared.writer.Writer.{Writer}
-use Rattle.share_model.specs.declared.fault.StoreFault.{StoreFault}
-use Rattle.share_model.specs.declared.fault.StoreFault.TheVariants.{Device}
 use Rattle.gate_journal.specs.Spares.{HasFrames}
 use Rattle.checkpoint_journal.specs.Generations.{IsBeaten, IsPlain, IsWhole, head_frame, mark_of, seal_frame}
 use Rattle.checkpoint_journal.specs.Spares.{IsAside}
 use Rattle.coord_checkpoint.specs.Stores.{AreSides, Finds, Keeps, MaySeal, StoreParts, idle_side, live_side}
 use Rattle.coord_checkpoint.specs.Steps.{HasCheckpoint, IsNextTurn, IsPreparing, IsReady, IsSameTurn, IsTried, StaysReady, placed}
-use Rattle.coord_checkpoint.specs.Writes.{IsLeftTrying, StaysOn, Tries, side}
+use Rattle.coord_checkpoint.specs.Writes.{IsLeftTrying, StaysOn, Tries}
 use Rattle.coord_checkpoint.specs.declared.step.Turn.{Turn}
 use Rattle.coord_checkpoint.proofs.Ends.{blocks_few, end_of, fit_of}
 use Rattle.coord_checkpoint.proofs.Made.{due_by, quiet_at, runs_one, runs_two, tried_is, tried_whole}
