@@ -1,25 +1,22 @@
 -- A write with no checkpoint before it, and a checkpoint with no write behind it.
-use Rattle.std.proofs.Common.{◌≡◌, ◌⊎◌, inl, inr, ⊎_elim, refl, sym, ap, ◌∙◌, subst, arith, ℕ, ◌+◌, ◌*◌, ◌<◌, ◌≤◌, ◌^◌, Bool, true, false, not, List, [], ◌∷◌, length, length-append, Option, Some, None, Result, Ok, Err, OnOk}
+use Rattle.std.proofs.Common.{◌≡◌, ◌⊎◌, inl, inr, ⊎_elim, refl, sym, ap, ◌∙◌, subst, arith, ℕ, ◌+◌, ◌*◌, ◌<◌, ◌≤◌, ◌^◌, Bool, true, false, not, List, [], ◌∷◌, length, length-append, Option, Some, None, Result, OnOk}
 use Rattle.std.specs.Prelude.{if◌then◌else◌}
 use Rattle.edge_io.specs.Armed.{RunsOn}
-use Rattle.edge_io.specs.Counting.{MakesCalls}
 use Rattle.edge_io.specs.Moments.{LeavesOnly, LeavesPairs}
 use Rattle.edge_io.specs.Views.{DiskView}
 use Rattle.edge_io.proofs.Moments.{started, weakened}
 use Rattle.edge_io.proofs.Runs.{runs_none}
 use Rattle.gate_journal.specs.Journals.{IsQuiet}
 use Rattle.gate_journal.specs.declared.writer.Writer.{Writer}
-use Rattle.share_model.specs.declared.fault.StoreFault.{StoreFault}
-use Rattle.share_model.specs.declared.fault.StoreFault.TheVariants.{Device}
 use Rattle.gate_journal.specs.Spares.{HasFrames}
 use Rattle.checkpoint_journal.specs.Generations.{IsBeaten, IsPlain, IsWhole, head_frame, mark_of, seal_frame}
 use Rattle.checkpoint_journal.specs.Spares.{IsAside}
 use Rattle.coord_checkpoint.specs.Stores.{AreSides, Finds, Keeps, MaySeal, StoreParts, idle_side, live_side}
 use Rattle.coord_checkpoint.specs.Steps.{HasCheckpoint, IsNextTurn, IsPreparing, IsReady, IsSameTurn, IsTried, StaysReady, placed}
-use Rattle.coord_checkpoint.specs.Writes.{IsLeftTrying, StaysOn, Tries, side}
+use Rattle.coord_checkpoint.specs.Writes.{IsLeftTrying, StaysOn, Tries}
 use Rattle.coord_checkpoint.specs.declared.step.Turn.{Turn}
 use Rattle.coord_checkpoint.proofs.Ends.{blocks_few, end_of, fit_of}
-use Rattle.coord_checkpoint.proofs.Made.{due_by, runs_one, runs_two, tried_is, tried_whole}
+use Rattle.coord_checkpoint.proofs.Made.{due_by, quiet_at, runs_one, runs_two, tried_is, tried_whole}
 use Rattle.coord_checkpoint.proofs.Pairs.{FindsBy, IsLive, finds_as, live_frames, live_whole, pair}
 use Rattle.coord_checkpoint.proofs.Sides.{both_moments, keeps_by, keeps_sides, overtaken_aside, placed_end, ready_by, swapped}
 
@@ -114,10 +111,6 @@ sealing_of false live idle turn = refl
 
 -- ---- a write with no checkpoint
 
-pub calls_quiet : {D : Type 0} (seen : D → DiskView) (calls : ℕ) (old new : D) (r : Result ℕ StoreFault) → MakesCalls seen calls old new Device r → OnOk r (IsQuiet seen old new)
-calls_quiet seen calls old new (Err e) disk = tt
-calls_quiet seen calls old new (Ok n) disk = λ told. (disk.done told).same_faults
-
 idle_is : {D : Type 0} (live idle : Writer D) (turn : Turn) (b : Bool) → turn.on_second ≡ b → idle_side (placed b live idle turn) ≡ idle
 idle_is live idle turn true e = ap (λ (t : Bool). if t then idle else live) e
 idle_is live idle turn false e = ap (λ (t : Bool). if t then live else idle) e
@@ -127,17 +120,12 @@ module _ {D T E : Type 0} (seen : D → DiskView) (live idle new last : Writer D
   unless : turn.sealing ≡ false → last ≡ idle
   unless low = ⊎_elim (λ is. is.0) (λ some. absurd (let clash : true ≡ false = sym some.0 ∙ low in cc)) undone
 
-  quiet_by : (b : Bool) → turn.on_second ≡ b
-      → OnOk r (IsQuiet seen (side (placed b live idle turn).on_second (placed b live idle turn)) (side (placed b live idle turn).on_second (placed b new last next)))
-  quiet_by true e = subst (λ (t : Bool). OnOk r (IsQuiet seen (if t then live.disk else idle.disk) (if t then new.disk else last.disk))) (sym e) quiet
-  quiet_by false e = subst (λ (t : Bool). OnOk r (IsQuiet seen (if t then idle.disk else live.disk) (if t then last.disk else new.disk))) (sym e) quiet
-
   pub stays_on : StaysOn seen (placed turn.on_second live idle turn) (placed turn.on_second new last next) r
   stays_on = record {
     same = on_second_of turn.on_second new last next ∙ (same.on_second ∙ sym (on_second_of turn.on_second live idle turn));
     other = λ low. idle_is new last next turn.on_second same.on_second
         ∙ (unless (sym (sealing_of turn.on_second live idle turn) ∙ low) ∙ sym (idle_is live idle turn turn.on_second refl));
-    quiet = quiet_by turn.on_second refl;
+    quiet = quiet_at seen live idle new last turn next r quiet turn.on_second refl;
   }
 
 -- ---- it was made

@@ -20,7 +20,7 @@ use Rattle.coord_checkpoint.specs.Steps.{IsPreparing, IsReady, IsSameTurn, IsTri
 use Rattle.coord_checkpoint.specs.Writes.{Adds, IsQuietBut, MayCheckpoint, Stays, Writes}
 use Rattle.coord_checkpoint.specs.declared.step.Turn.{Turn}
 use Rattle.coord_checkpoint.proofs.Ends.{has_room, stands_few}
-use Rattle.coord_checkpoint.proofs.Made.{Appended, append_failed, due_by, quiet_both, quiet_live, refuses_idle, refuses_live, runs_one, runs_two, stays_or, tried_is, tried_whole, written_frames}
+use Rattle.coord_checkpoint.proofs.Made.{Appended, append_failed, calls_quiet, due_by, quiet_at, quiet_both, quiet_live, refuses_idle, refuses_live, runs_one, runs_two, stays_or, tried_is, tried_whole, written_frames}
 use Rattle.coord_checkpoint.proofs.Pairs.{FindsBy, IsLive, finds_as, live_frames, live_whole, pair}
 use Rattle.coord_checkpoint.proofs.Sides.{both_moments, keeps_by, keeps_sides, placed_end, ready_by}
 
@@ -187,6 +187,7 @@ module _ {D : Type 0} (seen : D → DiskView)
       };
       device = λ is. refuses_idle seen live idle live last turn next turn.on_second refl failed (inr sealing_is);
       quiet = tt;
+      live = tt;
       any_moment = λ frames sealing pending was.
           both_moments seen live idle live last turn next (HasFrames (Lives frames sealing pending was)) (HasFrames (Idles frames sealing pending was))
           (IsLeftWithin frames sealing pending snapshots frame other) turn.on_second (lives_now frames sealing pending was) (idle_moments frames sealing pending was)
@@ -245,6 +246,7 @@ module _ {D : Type 0} (seen : D → DiskView)
       };
       device = λ is. refuses_live seen live idle new last turn next turn.on_second refl (append_failed seen frame len calls live new r a is);
       quiet = quiet r a;
+      live = quiet_at seen live idle new last turn next r (calls_quiet seen calls live.disk new.disk r a.disk) turn.on_second refl;
       any_moment = λ frames sealing pending was.
           both_moments seen live idle new last turn next (HasFrames (Lives frames sealing pending was)) (HasFrames (Idles frames sealing pending was))
           (IsLeftWithin frames sealing pending snapshots frame other) turn.on_second (lives_then frames sealing pending was new r a) (idle_moments frames sealing pending was)

@@ -20,7 +20,7 @@ use Rattle.checkpoint_journal.proofs.Marks.{made, one_more}
 use Rattle.coord_checkpoint.specs.Disks.{HasFailed}
 use Rattle.coord_checkpoint.specs.Stores.{AreSides, IsDue, IsLeftWithin, Keeps, StoreParts}
 use Rattle.coord_checkpoint.specs.Steps.{HasCheckpoint, IsNextTurn, IsPreparing, IsReady, IsTried, placed}
-use Rattle.coord_checkpoint.specs.Writes.{Adds, IsQuietBut, MayCheckpoint, RefusesDevice, Stays, Writes}
+use Rattle.coord_checkpoint.specs.Writes.{Adds, IsQuietBut, MayCheckpoint, RefusesDevice, Stays, Writes, side}
 use Rattle.coord_checkpoint.specs.declared.step.Turn.{Turn}
 use Rattle.coord_checkpoint.proofs.Ends.{blocks_few, end_of, fit_of, has_room, stands_few}
 use Rattle.coord_checkpoint.proofs.Pairs.{FindsBy, IsLive, finds_as, live_frames, live_whole, pair}
@@ -46,6 +46,20 @@ failed_later seen old mid new runs fails = (
   omega (arith, runs.later, fails.0),
   λ told unarmed. fails.1 (runs.told ∙ told) (runs.unarmed told unarmed),
 )
+
+-- where it is done no call of a disk failed
+pub calls_quiet : {D : Type 0} (seen : D → DiskView) (calls : ℕ) (old new : D) (r : Result ℕ StoreFault) → MakesCalls seen calls old new Device r → OnOk r (IsQuiet seen old new)
+calls_quiet seen calls old new (Err e) disk = tt
+calls_quiet seen calls old new (Ok n) disk = λ told. (disk.done told).same_faults
+
+-- of that which was live
+pub quiet_at : {D T E : Type 0} (seen : D → DiskView) (live idle new last : Writer D) (turn next : Turn) (r : Result T E) → OnOk r (IsQuiet seen live.disk new.disk)
+    → (b : Bool) → turn.on_second ≡ b
+    → OnOk r (IsQuiet seen (side (placed b live idle turn).on_second (placed b live idle turn)) (side (placed b live idle turn).on_second (placed b new last next)))
+quiet_at seen live idle new last turn next r quiet true e =
+    subst (λ (t : Bool). OnOk r (IsQuiet seen (if t then live.disk else idle.disk) (if t then new.disk else last.disk))) (sym e) quiet
+quiet_at seen live idle new last turn next r quiet false e =
+    subst (λ (t : Bool). OnOk r (IsQuiet seen (if t then idle.disk else live.disk) (if t then last.disk else new.disk))) (sym e) quiet
 
 module _ {D : Type 0} (seen : D → DiskView) (live idle live_new idle_new : Writer D) (turn next : Turn) where
   abbrev Old : Bool → StoreParts D
@@ -294,6 +308,7 @@ module _ {D : Type 0} (seen : D → DiskView)
         (failed_later seen idle.disk mid.disk new.disk runs (append_failed seen frame len calls mid new r a is))
         (inl (not_itself turn.on_second next.on_second turned.on_second));
     quiet = quiet r;
+    live = quiet_at seen live idle live new turn next r (untouched r) turn.on_second refl;
     any_moment = λ frames sealing pending was.
         let two = moments frames sealing pending was r a in
         both_moments seen live idle live new turn next (HasFrames (IsLive frames pending)) (HasFrames (Idles frames sealing pending was))
@@ -317,3 +332,7 @@ module _ {D : Type 0} (seen : D → DiskView)
       quiet (Err e) = tt
       quiet (Ok n) = quiet_live seen live idle live new turn next turn.on_second (MayCheckpoint Was snapshots)
           (inl (due_by live idle turn snapshots due)) (λ told. refl)
+
+      untouched : (r : Result ℕ StoreFault) → OnOk r (IsQuiet seen live.disk live.disk)
+      untouched (Err e) = tt
+      untouched (Ok n) = λ told. refl

@@ -1,7 +1,7 @@
 -- A store on two disks, and what a crash leaves of it. This project's own.
 -- For example a store whose first disk has the frame `61` with that frame pending behind it is found with the frames `61`, or with
 -- `61` and `61`. While the seal of its checkpoint may still land on the second disk, it may be found with that checkpoint instead.
-use Rattle.std.specs.Prelude.{◌≡◌, ◌⊎◌, ◌+◌, ◌*◌, ◌≤◌, ℕ, Bool, true, false, List, [], ◌∷◌, ◌++◌, length, Some, None, if◌then◌else◌}
+use Rattle.std.specs.Prelude.{◌≡◌, ◌⊎◌, ◌+◌, ◌*◌, ◌<◌, ◌≤◌, ◌^◌, ℕ, Bool, true, false, List, [], ◌∷◌, ◌++◌, length, Some, None, if◌then◌else◌}
 use Rattle.std.specs.declared.option.Option.{Option}
 use Rattle.edge_io.specs.Views.{DiskView}
 use Rattle.gate_journal.specs.Journals.{Stands}
@@ -71,9 +71,20 @@ pub record Keeps {D : Type 0} (seen : D → DiskView) (store : StoreParts D) (fr
 
 -- ---- a write
 
--- A checkpoint is due: the live journal has at least 4096 frames more than twice the number of keys, each of which has a snapshot.
+-- A checkpoint is due with so many keys: the live journal has at least 4096 frames more than twice their number.
+abbrev pub IsDueWith : {D : Type 0} → StoreParts D → ℕ → Type 0
+IsDueWith store keys = 4096 + 2 * keys ≤ (live_side store).count
+
+-- and where each of the keys has one of these snapshots
 abbrev pub IsDue : {D : Type 0} → StoreParts D → List (List ℕ) → Type 0
-IsDue store snapshots = 4096 + 2 * length snapshots ≤ (live_side store).count
+IsDue store snapshots = IsDueWith store (length snapshots)
+
+-- One of so many keys can be made: there is a next generation, behind which any frame has room, and a first disk without frames isn't live
+-- at a tie.
+pub record MayMake {D : Type 0} (store : StoreParts D) (keys : ℕ) : Type 0 where
+  pub few : keys < 2 ^ 35
+  pub next : store.generation < 2 ^ 62
+  pub clears : store.on_second ≡ true → 0 < store.generation
 
 -- the frames behind which a frame is written: those that there were, or the checkpoint that was completed
 abbrev pub IsBase : List (List ℕ) → List (List ℕ) → Bool → List (List ℕ) → Type 0

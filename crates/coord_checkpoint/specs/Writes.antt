@@ -71,6 +71,8 @@ pub record Writes {D : Type 0} (seen : D → DiskView) (frame fresh : List ℕ) 
   pub full : Fills seen old new len checkpointed result
   pub device : result ≡ Err Device → RefusesDevice seen old new
   pub quiet : OnOk result (IsQuietBut seen (MayCheckpoint old snapshots) old new)
+  -- where it is done, no call failed of the disk that was live at entry
+  pub live : OnOk result (IsQuiet seen (side old.on_second old) (side old.on_second new))
   -- at each moment since it began a crash of each disk leaves what it kept, a checkpoint, or a frame behind the frames or a checkpoint
   pub any_moment : (frames : List (List ℕ)) (sealing : Option (List (List ℕ))) (pending : Option (List ℕ)) →
       Keeps seen old frames sealing pending → LeavesPairs seen old.first.disk new.first.disk old.second.disk new.second.disk

@@ -4,7 +4,7 @@ ghost use Rattle.std.specs.declared.option.Option.{Option};
 ghost use Rattle.edge_io.specs.Armed.{ArmsAlone};
 ghost use Rattle.gate_journal.specs.Frames.{IsFrame, frame_in};
 ghost use Rattle.checkpoint_journal.specs.Generations.{IsPlain, mark_of};
-ghost use Rattle.coord_checkpoint.specs.Stores.{Keeps, arranged};
+ghost use Rattle.coord_checkpoint.specs.Stores.{IsDueWith, Keeps, MayMake, arranged, live_side};
 ghost use Rattle.coord_checkpoint.specs.Writes.{MayCheckpoint, StaysOn, Tries, Writes};
 
 use crate::step::{Appended, Turn, is_due, may_make, step, step_checkpoint, step_plain};
@@ -54,14 +54,22 @@ impl<D: Disk> StateJournal<D> {
         }
     }
 
-    /// Whether a checkpoint is to be tried before the next write, where there are so many keys.
-    pub fn is_due(&self, keys: u64) -> bool {
-        let live = if self.turn.on_second {
-            &self.second
+    // The number of frames of the live journal.
+    fn frames(&self) -> u64
+        ensures { result ≡ (live_side self.now).count }
+    {
+        if self.turn.on_second {
+            self.second.count()
         } else {
-            &self.first
-        };
-        is_due(live.count(), keys) && may_make(self.turn)
+            self.first.count()
+        }
+    }
+
+    /// Whether a checkpoint is to be tried before the next write, where there are so many keys.
+    pub fn is_due(&self, keys: u64) -> bool
+        ensures { (result ≡ true) ↔ (IsDueWith self.now keys × MayMake self.now keys) }
+    {
+        is_due(self.frames(), keys) && may_make(self.turn)
     }
 
     /// Which disk is live.

@@ -69,13 +69,14 @@ pub(crate) fn turn_of(first: Standing, second: Standing) -> Option<Turn>
 
 // Whether there are so many more frames than keys that a checkpoint is due.
 pub(crate) fn is_due(frames: u64, keys: u64) -> bool
-    ensures { result ≡ true → (4096 + 2 * keys ≤ frames) × (keys < 2 ^ 35) }
+    ensures { (result ≡ true) ↔ ((4096 + 2 * keys ≤ frames) × (keys < 2 ^ 35)) }
 {
     frames >= 4096 && keys <= (frames - 4096) / 2 && keys < MAX_KEYS
 }
 
 // Whether the disk that isn't live can be cleared, and there is a next generation.
 pub(crate) fn may_make(turn: Turn) -> bool
+    ensures exact { (result ≡ true) ↔ ((turn.generation < 2 ^ 62) × (turn.on_second ≡ true → 0 < turn.generation)) }
     ensures next { result ≡ true → turn.generation < 2 ^ 62 }
     ensures clears { result ≡ true → IsBeaten turn.on_second turn.generation [] }
 {

@@ -3,9 +3,10 @@ use Rattle.std.specs.Result.{IsOk}
 use Rattle.gate_journal.specs.Frames.{frame_in}
 use Rattle.gate_journal.specs.Journals.{calls_to_mend}
 use Rattle.share_model.specs.declared.fault.StoreFault.TheVariants.{Device}
-use Rattle.coord_checkpoint.proofs.Alone.{calls_quiet, stays_on}
+use Rattle.coord_checkpoint.proofs.Alone.{stays_on}
 use Rattle.coord_checkpoint.proofs.Beside.{beside_writes, gate_fails}
 use Rattle.coord_checkpoint.proofs.Ends.{buffer_len, shut_by}
+use Rattle.coord_checkpoint.proofs.Made.{calls_quiet}
 use Rattle.coord_checkpoint.proofs.Trying.{ok_is, preparing_stays, same_turn, stays_ready, then_moments, then_ready, then_turn}
 use Rattle.coord_checkpoint.proofs.step.step_plain.Goals as goal
 

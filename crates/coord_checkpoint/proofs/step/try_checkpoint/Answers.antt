@@ -6,7 +6,7 @@ use Rattle.coord_checkpoint.proofs.step.try_checkpoint.Goals as goal
 
 pub returns-in-Ok-clause-made : goal.returns-in-Ok-clause-made
 returns-in-Ok-clause-made g c =
-    let due = (c.is_due.ensures c.if-not-is_due.false).0 in
+    let due = (c.is_due.ensures.0 c.if-not-is_due.false).0 in
     let few : length (g.S.Snapshots.rest c.args.snapshots.now) + 2 < 2 ^ 63 = omega (arith, due, c.count.ensures, c.ranges.frames.fits) in
     let clears = c.may_make.ensures.clears c.if-not-may_make.false in
     let fits : c.args.turn.now.generation + 1 < 2 ^ 64 = omega (arith, c.may_make.ensures.next c.if-not-may_make.false) in
@@ -17,7 +17,7 @@ returns-in-Ok-clause-made g c =
 
 pub returns-in-Ok-clause-any_moment : goal.returns-in-Ok-clause-any_moment
 returns-in-Ok-clause-any_moment g c =
-    let due = (c.is_due.ensures c.if-not-is_due.false).0 in
+    let due = (c.is_due.ensures.0 c.if-not-is_due.false).0 in
     let few : length (g.S.Snapshots.rest c.args.snapshots.now) + 2 < 2 ^ 63 = omega (arith, due, c.count.ensures, c.ranges.frames.fits) in
     let clears = c.may_make.ensures.clears c.if-not-may_make.false in
     let fits : c.args.turn.now.generation + 1 < 2 ^ 64 = omega (arith, c.may_make.ensures.next c.if-not-may_make.false) in
@@ -25,7 +25,7 @@ returns-in-Ok-clause-any_moment g c =
 
 pub returns-in-Err-Uncleared-clause-kept : goal.returns-in-Err-Uncleared-clause-kept
 returns-in-Err-Uncleared-clause-kept g c =
-    let due = (c.is_due.ensures c.if-not-is_due.false).0 in
+    let due = (c.is_due.ensures.0 c.if-not-is_due.false).0 in
     let few : length (g.S.Snapshots.rest c.args.snapshots.now) + 2 < 2 ^ 63 = omega (arith, due, c.count.ensures, c.ranges.frames.fits) in
     let clears = c.may_make.ensures.clears c.if-not-may_make.false in
     let fits : c.args.turn.now.generation + 1 < 2 ^ 64 = omega (arith, c.may_make.ensures.next c.if-not-may_make.false) in
@@ -39,7 +39,7 @@ returns-in-Err-Uncleared-clause-kept g c =
 
 pub returns-in-Err-Uncleared-clause-any_moment : goal.returns-in-Err-Uncleared-clause-any_moment
 returns-in-Err-Uncleared-clause-any_moment g c =
-    let due = (c.is_due.ensures c.if-not-is_due.false).0 in
+    let due = (c.is_due.ensures.0 c.if-not-is_due.false).0 in
     let few : length (g.S.Snapshots.rest c.args.snapshots.now) + 2 < 2 ^ 63 = omega (arith, due, c.count.ensures, c.ranges.frames.fits) in
     let clears = c.may_make.ensures.clears c.if-not-may_make.false in
     let fits : c.args.turn.now.generation + 1 < 2 ^ 64 = omega (arith, c.may_make.ensures.next c.if-not-may_make.false) in
@@ -47,7 +47,7 @@ returns-in-Err-Uncleared-clause-any_moment g c =
 
 pub returns-in-Err-Unsealed-clause-kept : goal.returns-in-Err-Unsealed-clause-kept
 returns-in-Err-Unsealed-clause-kept g c =
-    let due = (c.is_due.ensures c.if-not-is_due.false).0 in
+    let due = (c.is_due.ensures.0 c.if-not-is_due.false).0 in
     let few : length (g.S.Snapshots.rest c.args.snapshots.now) + 2 < 2 ^ 63 = omega (arith, due, c.count.ensures, c.ranges.frames.fits) in
     let clears = c.may_make.ensures.clears c.if-not-may_make.false in
     let fits : c.args.turn.now.generation + 1 < 2 ^ 64 = omega (arith, c.may_make.ensures.next c.if-not-may_make.false) in
@@ -61,7 +61,7 @@ returns-in-Err-Unsealed-clause-kept g c =
 
 pub returns-in-Err-Unsealed-clause-any_moment : goal.returns-in-Err-Unsealed-clause-any_moment
 returns-in-Err-Unsealed-clause-any_moment g c =
-    let due = (c.is_due.ensures c.if-not-is_due.false).0 in
+    let due = (c.is_due.ensures.0 c.if-not-is_due.false).0 in
     let few : length (g.S.Snapshots.rest c.args.snapshots.now) + 2 < 2 ^ 63 = omega (arith, due, c.count.ensures, c.ranges.frames.fits) in
     let clears = c.may_make.ensures.clears c.if-not-may_make.false in
     let fits : c.args.turn.now.generation + 1 < 2 ^ 64 = omega (arith, c.may_make.ensures.next c.if-not-may_make.false) in
@@ -69,7 +69,7 @@ returns-in-Err-Unsealed-clause-any_moment g c =
 
 pub returns-in-Err-Sealing-clause-kept : goal.returns-in-Err-Sealing-clause-kept
 returns-in-Err-Sealing-clause-kept g c =
-    let due = (c.is_due.ensures c.if-not-is_due.false).0 in
+    let due = (c.is_due.ensures.0 c.if-not-is_due.false).0 in
     let few : length (g.S.Snapshots.rest c.args.snapshots.now) + 2 < 2 ^ 63 = omega (arith, due, c.count.ensures, c.ranges.frames.fits) in
     let clears = c.may_make.ensures.clears c.if-not-may_make.false in
     let fits : c.args.turn.now.generation + 1 < 2 ^ 64 = omega (arith, c.may_make.ensures.next c.if-not-may_make.false) in
@@ -83,11 +83,11 @@ returns-in-Err-Sealing-clause-kept g c =
 
 pub returns-in-Err-Sealing-clause-any_moment : goal.returns-in-Err-Sealing-clause-any_moment
 returns-in-Err-Sealing-clause-any_moment g c =
-    let due = (c.is_due.ensures c.if-not-is_due.false).0 in
+    let due = (c.is_due.ensures.0 c.if-not-is_due.false).0 in
     let few : length (g.S.Snapshots.rest c.args.snapshots.now) + 2 < 2 ^ 63 = omega (arith, due, c.count.ensures, c.ranges.frames.fits) in
     let clears = c.may_make.ensures.clears c.if-not-may_make.false in
     let fits : c.args.turn.now.generation + 1 < 2 ^ 64 = omega (arith, c.may_make.ensures.next c.if-not-may_make.false) in
     λ sealing r. making_moments g.D.Disk.seen c.args.idle.now c.write_checkpoint.new.idle c.args.turn.now (g.S.Snapshots.rest c.args.snapshots.now) clears few fits sealing (c.write_checkpoint.ensures.any_moment _ _ sealing (beside_by g.D.Disk.seen c.args.idle.now c.write_checkpoint.new.idle c.args.turn.now (g.S.Snapshots.rest c.args.snapshots.now) clears few fits sealing r))
 
 pub returns-in-Ok-clause-few : goal.returns-in-Ok-clause-few
-returns-in-Ok-clause-few g c = let few = (c.is_due.ensures c.if-not-is_due.false).1 in λ _. omega (arith, few, c.count.ensures)
+returns-in-Ok-clause-few g c = let few = (c.is_due.ensures.0 c.if-not-is_due.false).1 in λ _. omega (arith, few, c.count.ensures)
