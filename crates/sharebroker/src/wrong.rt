@@ -221,6 +221,15 @@ fn option_at(
     }
 }
 
+// Whether words name the port 0 to listen at, and no address that clients are told.
+fn lacks_advertise(words: &[String]) -> bool {
+    let listens = words.windows(2).any(|pair| match pair {
+        [option, value] => option.as_str() == "--listen" && value.ends_with(":0"),
+        _ => false,
+    });
+    listens && !words.iter().any(|word| word.as_str() == "--advertise")
+}
+
 // What is wrong of a command's words, if anything is.
 fn wrong_of(alloc: Global, command: &str, words: &[String]) -> Result<Option<String>, AllocError> {
     let options = options_of(alloc, command)?;
@@ -239,6 +248,9 @@ fn wrong_of(alloc: Global, command: &str, words: &[String]) -> Result<Option<Str
         {
             return Ok(Some(format!(in alloc; "{word} is missing")?));
         }
+    }
+    if lacks_advertise(words) {
+        return Ok(Some(format!(in alloc; "--listen with the port 0 needs --advertise")?));
     }
     wrong_rest(alloc, command, rest)
 }
