@@ -224,7 +224,9 @@ class ServeCase(unittest.TestCase):
         """What `dump-state` tells of the folder."""
         words = [PROGRAM, "dump-state", "--dir", os.path.join(self.folder, "data"), f"orders:{partitions}:{ORDERS}"]
         done = subprocess.run(words, stdin=subprocess.DEVNULL, capture_output=True, text=True, timeout=PATIENCE)
-        self.assertEqual((done.returncode, done.stderr), (0, ""))
+        self.assertEqual(done.returncode, 0, done.stderr)
+        for line in done.stderr.splitlines():
+            self.assertRegex(line, r": \d+ bytes behind its end are cut off and kept in .*\.cut-\d$")
         return done.stdout.splitlines()
 
     def test_the_line_that_tells_the_port(self):
@@ -519,8 +521,45 @@ class ServeCase(unittest.TestCase):
         self.assertTrue(self.is_closed_on(overlong, bytes.fromhex("7fffffff")))
         self.assertEqual(len(good.fetch()), 2)
         within(lambda: len(server.lines) > 2, "the lines of the two connections that were closed")
-        said = "closed, as what it sent is no request, or no memory was found for it"
-        self.assertEqual(server.lines[1:], [f"sharebroker: {address}: {said}" for address in addresses])
+        said = ["version 4 of the call with key 1 isn't served",
+                "a request of 2147483647 bytes is longer than any that is taken"]
+        self.assertEqual(server.lines[1:], [f"sharebroker: {address}: closed, as {why}" for address, why in zip(addresses, said)])
+
+    def test_silent_connections_end_and_give_their_workers_back(self):
+        for sent in (b"", bytes.fromhex("0000000e" "0012" "0003")):
+            folder = os.path.join(self.folder, "silent%d" % len(sent))
+            server = self.server("--workers", "2", "--idle-ms", "1000", "--lock-ms", "1500", folder=folder)
+            silent = [self.raw(server) for _ in range(2)]
+            for stream in silent:
+                stream.sendall(sent)
+            begun = time.monotonic()
+            self.assertEqual(self.member(server).produce(b"a"), (0, 0))
+            self.assertGreaterEqual(time.monotonic() - begun, 1.4)
+            said = "closed, as nothing came from it for so long"
+            within(lambda: sum(line.endswith(said) for line in server.lines) == 2, "the lines of two silent connections")
+            for stream in silent:
+                self.assertEqual(stream.recv(1), b"")
+            server.close()
+
+    def test_a_connection_that_waits_for_a_worker_is_told(self):
+        server = self.server("--workers", "1")
+        self.raw(server)
+        waiting = self.raw(server)
+        line = "sharebroker: 1 connection waits for one of 1 worker"
+        within(lambda: line in server.lines, "the line of a connection that waits")
+        waiting.close()
+
+    def test_no_descriptor_that_is_free_is_told_once(self):
+        server = self.server("--workers", "64", bounded=("-n 24",))
+        streams = [self.raw(server) for _ in range(40)]
+        told = "Too many open files"
+        within(lambda: any(told in line for line in server.lines), "the line that no client can be accepted")
+        time.sleep(0.5)
+        self.assertEqual(sum(told in line for line in server.lines), 1, server.lines)
+        for stream in streams:
+            stream.close()
+        self.assertEqual(self.member(server).produce(b"a"), (0, 0))
+        within(lambda: any("clients are accepted again, behind" in line for line in server.lines), "the count of the tries")
 
     def test_more_workers_than_the_system_starts_threads_for(self):
         # 8 MiB of stack for each of 257 threads are twice what the addresses are.

@@ -6,6 +6,7 @@
 // | `folder`, `folder fails CALL` | disks of a folder, over calls that are done, but for the first of this kind: `ok` |
 // | `folder below` | the same, where the folder's parent is missing |
 // | `visit CALL of NAME` | takes the disk of that name, makes a call of it, and puts it back. A call is `size`, `read PLACE N`, `write PLACE HEX`, `cut LENGTH` or `sync`; it gives the size, the bytes, or `ok`, or `fails`. Each file holds `abcdef` at first |
+// | `has NAME` | whether the folder has the file of a disk: `yes` or `no`. It has those that were opened |
 // | `calls` | the calls that made folders, opened files and synced folders |
 // | `source END ..`, `sink END ..` | a stream whose calls end so, one after the other, and then `done`: `ok` |
 // | `read`, `write` | how many bytes are read, or written: a number, or `fails` |
@@ -43,6 +44,7 @@ pub enum Adapters {
 /// The call of a name.
 fn call_of(name: &str) -> Option<SystemCall> {
     let calls = [
+        ("path", SystemCall::Path),
         ("make-folder", SystemCall::MakeFolder),
         ("sync-folder", SystemCall::SyncFolder),
         ("open", SystemCall::Open),
@@ -141,6 +143,10 @@ impl FakeBay {
                     None => Ok(None),
                 };
             }
+            "has" => match named(text) {
+                Some(name) => word(alloc, if self.bay.has(&name) { "yes" } else { "no" }),
+                None => return Ok(None),
+            },
             "calls" => word(alloc, self.bay.system().notes()),
             "fault" => fault_words(alloc, &self.bay.last_fault()),
             _ => return Ok(None),

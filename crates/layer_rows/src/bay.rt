@@ -7,6 +7,7 @@ use std::io;
 
 fn place_of(name: &str) -> DiskPlace {
     match name {
+        "log-b" => DiskPlace::LogB,
         "state-a" => DiskPlace::StateA,
         "state-b" => DiskPlace::StateB,
         _ => DiskPlace::Log,
@@ -51,9 +52,15 @@ pub fn bay_told(alloc: Global) -> io::Result<String> {
     let mut failing = Vec::new(alloc);
     failing.push(1)?;
     let mut bay = MemBay::new(alloc, failing);
+    if bay.has(&name) {
+        return word(alloc, "a bay of no disks has one");
+    }
     let Ok(mut disk) = bay.take(&name) else {
         return word(alloc, "the first call fails");
     };
+    if !bay.has(&name) || bay.has(&DiskName::foreign_state_a()) {
+        return word(alloc, "a bay hasn't the one disk that was taken");
+    }
     let is_written = disk.write_at(0, b"kept").is_ok();
     bay.put_back(&name, disk);
     if !is_written || bay.take(&name).is_ok() {

@@ -130,7 +130,7 @@ impl Folders for FakeFolders {
     fn has_file(&self, path: &str) -> io::Result<bool> {
         match self.failing {
             Some(SystemCall::Path) => Err(io::Error::from(ErrorKind::PermissionDenied)),
-            _ => Ok(self.notes.contains(path)),
+            _ => Ok(self.notes.split(' ').any(|word| word == path)),
         }
     }
 

@@ -7,6 +7,8 @@
 // | `read N` | one read of N bytes: the bytes, or `fails`; those read into are then as they were |
 // | `send HEX ..` | `ok`, or `fails` |
 // | `sent` | what the link was sent |
+// | `at-end` | whether a look finds that the peer has ended: `yes` or `no` |
+// | `closed CAUSE [N [M]]` | tells the link that it is closed for this cause: its words |
 // | `listener N` | a listener of N links, whose peers send `00`, `01` and so on: `ok` |
 // | `listener-fails M N` | the same, of which the call numbered M, from 0, fails |
 // | `next` | takes the next link, whose lines follow: `ok`, `none` or `fails` |
@@ -16,7 +18,7 @@
 // | `another` | goes on with another clock of the same kind: `ok` |
 use crate::disks::{UNREAD, bytes_text, done, failed_read, number_text};
 use crate::plain::word;
-use edge_io::{Clock, Link, Listener, send_all};
+use edge_io::{Clock, CloseReason, Link, Listener, send_all};
 use edge_mem::{MemClock, MemLink, MemListener, MemSink, MemSource};
 use row_text::bytes_of;
 use std::alloc::Global;
@@ -61,6 +63,27 @@ fn read_piece(alloc: Global, link: &mut MemLink, count: usize) -> io::Result<Str
             bytes_text(alloc, piece)
         }
         Err(_) => failed_read(alloc, &into),
+    }
+}
+
+/// The cause of these words.
+fn reason_of(text: &str) -> CloseReason {
+    let (kind, numbers) = text.split_once(' ').unwrap_or((text, ""));
+    let (first, second) = numbers.split_once(' ').unwrap_or((numbers, ""));
+    match kind {
+        "too-long" => CloseReason::TooLong {
+            size: first.parse().unwrap_or(0),
+        },
+        "bad-header" => CloseReason::BadHeader,
+        "unknown-api" => CloseReason::UnknownApi {
+            key: first.parse().unwrap_or(0),
+            version: second.parse().unwrap_or(0),
+        },
+        "bad-body" => CloseReason::BadBody {
+            place: first.parse().unwrap_or(0),
+        },
+        "long-reply" => CloseReason::LongReply,
+        _ => CloseReason::NoMemory,
     }
 }
 
@@ -131,6 +154,12 @@ impl Links {
                 None => return Ok(None),
             },
             "sent" => bytes_text(alloc, self.link.bytes()),
+            "at-end" => word(alloc, if self.link.is_at_end() { "yes" } else { "no" }),
+            "closed" => {
+                let reason = reason_of(text);
+                self.link.closed(reason);
+                Ok(format!(in alloc; "{reason}")?)
+            }
             _ => return Ok(None),
         };
         Ok(Some(told?))

@@ -16,21 +16,33 @@ enum Asked<'a> {
     Version,
 }
 
+fn asks_help(word: &str) -> bool {
+    word == "--help" || word == "-h"
+}
+
 // What these words ask, where they ask for one of these and nothing else.
 fn asked(words: &[String]) -> Option<Asked<'_>> {
     let (first, rest) = words.split_first()?;
-    match (first.as_str(), rest.first()) {
-        ("--help" | "-h" | "help", None) => Some(Asked::Usage("")),
-        ("--version", None) => Some(Asked::Version),
-        ("help", Some(name)) if rest.len() == 1 && is_command(name.as_str()) => Some(Asked::Usage(
-            name.as_str(),
-        )),
-        (name, Some(word)) if rest.len() == 1 && is_command(name) => match word.as_str() {
-            "--help" | "-h" => Some(Asked::Usage(name)),
+    let first = first.as_str();
+    let Some(second) = rest.first() else {
+        return match first {
+            "--version" => Some(Asked::Version),
+            "help" => Some(Asked::Usage("")),
+            _ if asks_help(first) => Some(Asked::Usage("")),
             _ => None,
-        },
-        _ => None,
+        };
+    };
+    let second = second.as_str();
+    if rest.len() > 1 {
+        return None;
     }
+    if first == "help" && is_command(second) {
+        return Some(Asked::Usage(second));
+    }
+    if is_command(first) && asks_help(second) {
+        return Some(Asked::Usage(first));
+    }
+    None
 }
 
 // The SHA-1 of the program's own file.

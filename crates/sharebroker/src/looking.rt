@@ -10,7 +10,7 @@ use edge_real::{
     FolderBay, Folders, LookFolders, ReaderSource, SystemFolders, WriterSink, keep_behind,
     lacks_bytes, seen_behind,
 };
-use share_top::{Words, run_alone, serve_words};
+use share_top::{ServeWords, Words, run_alone, serve_words};
 use std::alloc::AllocError;
 use std::io::{Read, Write};
 use topic_conf::Config;
@@ -31,7 +31,10 @@ fn look_bay<'a>(rt: &'a HostRuntime, folder: String) -> Look<'a>
 // The configuration of a command that opens a folder.
 fn config_of(words: Words) -> Option<Config> {
     match words {
-        Words::Serve { words, .. } => Some(words.conf),
+        Words::Serve { words, .. } => {
+            let ServeWords { conf, .. } = words;
+            Some(conf)
+        }
         Words::Load { conf, .. } => Some(conf),
         Words::DumpState { conf } => Some(conf),
         _ => None,

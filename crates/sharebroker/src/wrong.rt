@@ -44,7 +44,7 @@ fn takes(option: &str) -> Takes {
 // Whether a text is a number from one to another, with no sign and no leading zero.
 fn is_number(text: &str, least: u64, most: u64) -> bool {
     let is_plain = text == "0" || !text.starts_with('0');
-    let are_digits = !text.is_empty() && text.bytes().all(|byte| byte.is_ascii_digit());
+    let are_digits = !text.is_empty() && text.as_bytes().iter().all(|byte| byte.is_ascii_digit());
     match text.parse::<u64>() {
         Ok(number) => is_plain && are_digits && least <= number && number <= most,
         Err(_) => false,
@@ -56,7 +56,7 @@ fn is_address(text: &str) -> bool {
     let Some((host, port)) = text.split_once(':') else {
         return false;
     };
-    let is_host = host.bytes().all(|byte| byte.is_ascii_alphanumeric()
+    let is_host = host.as_bytes().iter().all(|&byte| byte.is_ascii_alphanumeric()
         || byte == b'.'
         || byte == b'-');
     is_host && !host.is_empty() && host.len() <= 255 && is_number(port, 0, 65535)
@@ -149,8 +149,9 @@ fn wrong_topic(alloc: Global, word: &str) -> Result<Option<String>, AllocError> 
         )?));
     }
     if !id
-        .bytes()
-        .any(|byte| byte.is_ascii_hexdigit() && byte != b'0')
+        .as_bytes()
+        .iter()
+        .any(|&byte| byte.is_ascii_hexdigit() && byte != b'0')
         || id.len() < 32
     {
         return Ok(Some(format!(in alloc;
@@ -221,6 +222,15 @@ fn option_at(
     }
 }
 
+// Whether words name the port 0 to listen at, and no address that clients are told.
+fn lacks_advertise(words: &[String]) -> bool {
+    let listens = words.windows(2).any(|pair| match pair {
+        [option, value] => option.as_str() == "--listen" && value.ends_with(":0"),
+        _ => false,
+    });
+    listens && !words.iter().any(|word| word.as_str() == "--advertise")
+}
+
 // What is wrong of a command's words, if anything is.
 fn wrong_of(alloc: Global, command: &str, words: &[String]) -> Result<Option<String>, AllocError> {
     let options = options_of(alloc, command)?;
@@ -239,6 +249,9 @@ fn wrong_of(alloc: Global, command: &str, words: &[String]) -> Result<Option<Str
         {
             return Ok(Some(format!(in alloc; "{word} is missing")?));
         }
+    }
+    if lacks_advertise(words) {
+        return Ok(Some(format!(in alloc; "--listen with the port 0 needs --advertise")?));
     }
     wrong_rest(alloc, command, rest)
 }
