@@ -9,10 +9,10 @@ use Rattle.share_top.specs.declared.words.server.ServeWords.{ServeWords}
 use Rattle.share_top.specs.declared.words.setting.Setting.{Setting}
 use Rattle.share_top.specs.declared.words.setting.Settings.{Settings}
 use Rattle.share_top.specs.declared.words.setting.Setting.TheVariants as set
-use Rattle.share_top.specs.Words.{AreServeWords, IsOfServer, IsSetting, IsTold, IsTopicWord, accept_of, advertise_of, limit_of, listen_of, lock_ms_of, option_word, reset_of, setting_words, texts, workers_of}
+use Rattle.share_top.specs.Words.{AreServeWords, IsOfServer, IsSetting, IsTold, IsTopicWord, accept_of, advertise_of, limit_of, listen_of, lock_ms_of, option_word, reset_of, setting_words, texts, workers_of, versions_of, idle_ms_of}
 use Rattle.share_top.specs.WordReading.{Adds, AreNoServeWords, AreNoTopics, AreTopics, BeginsNoOption, HasAddresses, HasNoFolder, HasNoServeOptions, IsBehindFolder, IsOption, Reads, ReadsServe, nothing, serve_words_of}
 use Rattle.share_top.proofs.GivenSettings.{InRange, adds_both, adds_one, adds_parts, all_both, all_parts, are_of_server, can_be_added, few_workers, in_range, once_each}
-use Rattle.share_top.proofs.GivenSettings.{same_accept_of, same_advertise_of, same_limit_of, same_listen_of, same_lock_ms_of, same_reset_of, same_workers_of, were_of_server}
+use Rattle.share_top.proofs.GivenSettings.{same_accept_of, same_advertise_of, same_limit_of, same_listen_of, same_lock_ms_of, same_reset_of, same_workers_of, same_versions_of, same_idle_ms_of, were_of_server}
 use Rattle.share_top.proofs.OneCommand.{first_word, new_to_nothing, no_option, same_conf}
 use Rattle.share_top.proofs.OptionWords.{apart, one_front}
 use Rattle.share_top.proofs.TopicWords.{hosted_stand, same_topics}
@@ -27,6 +27,8 @@ folder_is_none (set.Listen address, e) = omega (arith, apart _ _ e)
 folder_is_none (set.Advertise address, e) = omega (arith, apart _ _ e)
 folder_is_none (set.Workers n, e) = omega (arith, apart _ _ e)
 folder_is_none (set.Accept n, e) = omega (arith, apart _ _ e)
+folder_is_none (set.Versions versions, e) = omega (arith, apart _ _ e)
+folder_is_none (set.IdleMs time, e) = omega (arith, apart _ _ e)
 
 abbrev behind_dir : List ℕ → List Setting → List (List ℕ) → List (List ℕ)
 behind_dir folder behind rest = codes "--dir" ∷ (folder ∷ (flat_map setting_words behind ++ rest))
@@ -199,6 +201,8 @@ module _ (words rest : List (List ℕ)) (given : Settings) (r : ReadsServe words
     limit = sym (same_limit_of nothing (r.before ++ r.behind) given all_given);
     workers = sym (same_workers_of nothing (r.before ++ r.behind) given all_given);
     accept = sym (same_accept_of nothing (r.before ++ r.behind) given all_given);
+    versions = sym (same_versions_of nothing (r.before ++ r.behind) given all_given);
+    idle_ms = sym (same_idle_ms_of nothing (r.before ++ r.behind) given all_given);
   }
 
 -- ---- one server
@@ -210,8 +214,8 @@ same_told : (o : Option Address) (listen a b : Address) → IsTold o listen a �
 same_told (Some address) listen a b p q = p ∙ sym q
 same_told None listen a b p q = p.1 ∙ sym q.1
 
-abbrev words_of : ConfigParts → ℕ → ℕ → ServeWords
-words_of conf workers accept = record { conf = conf; workers = workers; accept = accept }
+abbrev words_of : ConfigParts → ℕ → ℕ → ℕ → ServeWords
+words_of conf workers accept idle_ms = record { conf = conf; workers = workers; accept = accept; idle_ms = idle_ms }
 
 pub one_serve : (words : List (List ℕ)) (a b : Address) (s z : ServeWords) → AreServeWords words a s → AreServeWords words b z → (a ≡ b) × (s ≡ z)
 one_serve words a b s z p q =
@@ -230,12 +234,13 @@ one_serve words a b s z p q =
     let conf : s.conf ≡ z.conf = same_conf s.conf z.conf
     (same_topics q.topics s.conf.topics z.conf.topics (hosted_stand s.conf.topics p.hosted) (hosted_stand z.conf.topics q.hosted) zip q.each_topic)
     (p.reset ∙ ap reset_of all ∙ sym q.reset) (p.lock_ms ∙ ap lock_ms_of all ∙ sym q.lock_ms) (p.limit ∙ ap limit_of all ∙ sym q.limit)
-    (ap (λ (x : Address). x.host) told) (ap (λ (x : Address). x.port) told) in
+    (ap (λ (x : Address). x.host) told) (ap (λ (x : Address). x.port) told) (p.versions ∙ ap versions_of all ∙ sym q.versions) in
     let workers : s.workers ≡ z.workers = p.workers ∙ ap workers_of all ∙ sym q.workers in
-    let accept : s.accept ≡ z.accept = p.accept ∙ ap accept_of all ∙ sym q.accept in (
+    let accept : s.accept ≡ z.accept = p.accept ∙ ap accept_of all ∙ sym q.accept in
+    let idle_ms : s.idle_ms ≡ z.idle_ms = p.idle_ms ∙ ap idle_ms_of all ∙ sym q.idle_ms in (
       listens,
-      ap (λ (c : ConfigParts). words_of c s.workers s.accept) conf ∙ ap (λ (n : ℕ). words_of z.conf n s.accept) workers
-          ∙ ap (λ (n : ℕ). words_of z.conf z.workers n) accept,
+      ap (λ (c : ConfigParts). words_of c s.workers s.accept s.idle_ms) conf ∙ ap (λ (n : ℕ). words_of z.conf n s.accept s.idle_ms) workers
+          ∙ ap (λ (n : ℕ). words_of z.conf z.workers n s.idle_ms) accept ∙ ap (λ (n : ℕ). words_of z.conf z.workers z.accept n) idle_ms,
     )
 
 -- how many workers a server has

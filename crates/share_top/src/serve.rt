@@ -66,6 +66,7 @@ where
         conf,
         workers,
         accept,
+        ..
     } = words;
     match broker_run::serve(
         rt, alloc, conf, workers, accept, bay, clock, listener, spawner, NoGate,

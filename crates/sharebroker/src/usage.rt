@@ -91,6 +91,20 @@ const ACCEPT: Word = Word {
     help: "How many connections it serves before it ends, 1 to 4294967295",
 };
 
+const VERSIONS: Word = Word {
+    option: Some("versions"),
+    value: "exact|wide|all",
+    given: Given::Default("exact"),
+    help: "Each call in one version, also the older ones of stock producers, or all known",
+};
+
+const IDLE_MS: Word = Word {
+    option: Some("idle-ms"),
+    value: "N",
+    given: Given::Default("600000"),
+    help: "How long a connection may be silent, 0 to 86400000 milliseconds",
+};
+
 const OUTPUT: Word = Word {
     option: Some("output"),
     value: "lines|summary",
@@ -135,7 +149,8 @@ const COMMANDS: [Usage; 5] = [
         example: "Example:
   sharebroker serve --dir data --listen 127.0.0.1:9092 --reset earliest jobs:1:6ba7b810-9dad-11d1-80b4-00c04fd430c8",
         words: &[
-            FOLDER, LISTEN, ADVERTISE, RESET, LOCK_MS, LIMIT, WORKERS, ACCEPT, TOPICS,
+            FOLDER, LISTEN, ADVERTISE, RESET, LOCK_MS, LIMIT, WORKERS, ACCEPT, VERSIONS, IDLE_MS,
+            TOPICS,
         ],
     },
     Usage {
@@ -144,7 +159,7 @@ const COMMANDS: [Usage; 5] = [
         about: "Replays a recorded session from standard input over disks in memory, and writes its outcomes to standard output",
         example: "Example:
   sharebroker replay --reset earliest orders:1:22222222-2222-2222-2222-222222222222 < examples/queue",
-        words: &[RESET, LOCK_MS, LIMIT, OUTPUT, TOPICS],
+        words: &[RESET, LOCK_MS, LIMIT, OUTPUT, VERSIONS, TOPICS],
     },
     Usage {
         name: "load",

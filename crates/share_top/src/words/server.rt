@@ -20,6 +20,8 @@ pub struct ServeWords {
     pub workers: u32,
     /// After how many connections it ends, 1 to 4294967295.
     pub accept: u32,
+    /// After how many milliseconds of silence a connection is idle, 0 to 86400000.
+    pub idle_ms: u32,
 }
 
 // What the options say, among which the folder has to stand, and the words behind them.
