@@ -26,10 +26,7 @@ fn partitions(words: &ServeWords) -> u32 {
     all
 }
 
-// How long a connection may be silent, in milliseconds.
-const IDLE_MS: u32 = 600_000;
-
-// How long a connection may be silent, which is at least as long as a lock lasts. 0 is for ever.
+// How long a connection may be silent in milliseconds, which is at least as long as a lock lasts. 0 is for ever.
 fn idle_time(idle_ms: u32, lock_ms: u32) -> Option<Duration> {
     if idle_ms == 0 {
         return None;
@@ -96,7 +93,7 @@ pub fn serve_over_tcp<
         return status;
     }
     let mut bay = folder_bay(rt, folder, teller.again());
-    let idle = idle_time(IDLE_MS, served.conf.lock_ms());
+    let idle = idle_time(served.idle_ms, served.conf.lock_ms());
     let mut listener = TcpLinks::new(*handle, host, listen.port, idle, teller.again());
     let mut clock = SystemClock::new(*handle, teller.again());
     let mut spawner = ThreadSpawner::new(*handle);
