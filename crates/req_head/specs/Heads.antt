@@ -1,10 +1,8 @@
--- The headers of requests and replies: request header versions 2 and 1 and response header versions 1 and 0 (KIP-482,
+-- The headers of requests and replies: request header version 2 and response header versions 1 and 0 (KIP-482,
 -- RequestHeader.json and ResponseHeader.json).
--- For example `0053 0000 00000001 ffff 00` is the header of version 2 of key 83, version 0 and correlation id 1.
+-- For example `0053 0000 00000001 ffff 00` is the header of key 83, version 0 and correlation id 1.
 use Rattle.std.specs.Prelude.{ℕ, ℤ, Bool, true, false, List, Option, refl}
 use Rattle.flex_fields.specs.Formats.{Format, Shape, structure, ◌▹◌, int16, int32}
-use Rattle.flex_fields.specs.Reading.{as_at}
-use Rattle.flex_fields.specs.Sound.Counted.{shape_reads}
 use Rattle.req_head.specs.Client.{IsClient, client_at, client_bytes}
 use Rattle.req_head.specs.ClientRead.{client_reads}
 
@@ -29,23 +27,6 @@ head_shape = record {
 
 unfoldable pub request_head : Format HeadParts
 request_head = structure head_shape (int16 ▹ int16 ▹ int32 ▹ client_id)
-
--- version 1 has no tags
-abbrev pub head_fields : Format (ℤ × (ℤ × (ℤ × Option (List ℕ))))
-head_fields = int16 ▹ int16 ▹ int32 ▹ client_id
-
-unfoldable pub old_request_head : Format HeadParts
-old_request_head = record {
-  is = λ bytes h. head_fields.is bytes (head_shape.parts h);
-  read = as_at head_shape.make head_fields.read;
-  bytes = λ h. head_fields.bytes (head_shape.parts h);
-  sound = shape_reads head_shape.make head_shape.parts head_shape.back head_shape.there head_fields.is head_fields.read head_fields.sound;
-}
-
--- of version 2 where tags end it, and else of version 1: 00 53 00 00 00 00 00 01 ff ff 00 and 00 53 00 00 00 00 00 01 ff ff
-abbrev pub request_head_by : Bool → Format HeadParts
-request_head_by true = request_head
-request_head_by false = old_request_head
 
 abbrev pub number_alone : Shape ℤ ℤ
 number_alone = record { make = λ x. x; parts = λ x. x; back = λ _. refl; there = λ _. refl }

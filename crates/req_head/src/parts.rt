@@ -18,19 +18,13 @@ pub fn take_head_start(cursor: &mut Cursor<'_>) -> Result<(i16, (i16, i32)), Wir
     Ok((key, (version, correlation)))
 }
 
-/// Takes what stands behind that: the client id, and tags where the request header is of version 2, as `tags` says, and
-/// not of version 1. After a refusal the cursor may stand anywhere.
+/// Takes what stands behind that in a request header of version 2: the client id, and tags. After a refusal the
+/// cursor may stand anywhere.
 #[tactic(auto, unfolding(crate::specs::InTwo::head_rest))]
-pub fn take_head_rest(
-    alloc: Global,
-    tags: bool,
-    cursor: &mut Cursor<'_>,
-) -> Result<Option<Text>, WireFault>
-    ensures { Moves cursor.new result ((head_rest tags).read cursor.old) }
+pub fn take_head_rest(alloc: Global, cursor: &mut Cursor<'_>) -> Result<Option<Text>, WireFault>
+    ensures { Moves cursor.new result (head_rest.read cursor.old) }
 {
     let client = take_client(alloc, cursor)?;
-    if tags {
-        cursor.skip_tags()?;
-    }
+    cursor.skip_tags()?;
     Ok(client)
 }

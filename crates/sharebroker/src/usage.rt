@@ -95,7 +95,7 @@ const VERSIONS: Word = Word {
     option: Some("versions"),
     value: "exact|wide|all",
     given: Given::Default("exact"),
-    help: "Each call in one version, also the older ones of stock producers, or all known",
+    help: "Which versions of the calls are served; so far each word means the exact ones",
 };
 
 const IDLE_MS: Word = Word {
