@@ -1,16 +1,21 @@
 // The shard of a hosted partition, on three disks in memory. New groups begin at the log's start, a lock lasts 30000
-// milliseconds, and a record goes out five times at most. All is at the moment 0.
+// milliseconds, and a record goes out five times at most. All but what a fetch says is at the moment 0.
 //
 // | Line | Gives |
 // |---|---|
 // | `open` | a shard on empty disks: `ok` |
+// | `open HEX` | a shard whose log's disk has these bytes: `ok` |
 // | `produce HEX ..` | adds a batch: its base, or why it is refused |
+// | `produces COUNT HEX ..` | adds it so often: the base of the last, or why one is refused |
 // | `delete OFFSET` | deletes what lies below it, -1 standing for the log's end: where the log starts then, or `out of range END`, or `fails` |
 // | `fetch GROUP MEMBER` | acquires what there is: `FIRST..LAST xCOUNT, ..`, or `fails` |
+// | `fetch GROUP MEMBER RECORDS MOMENT` | acquires so many records at most at a moment |
 // | `reserve NUMBER` | makes the spare number so large |
 // | `arm DISK N MODE` | N calls on `log`, `state-a` or `state-b` pass, and the next fails: `once`, `torn` or `dead` |
 // | `acknowledge GROUP MEMBER FIRST..LAST:TYPE,TYPE ..` | in memory that is set aside: `done`, `malformed`, `not held OFFSET`, `fails`, `full END` |
 // | `table GROUP` | its start, and the runs of its stored rows |
+// | `offer GROUP` | what a fetch would find: `no table`, `slot OFFSET` or `nothing` |
+// | `describe GROUP` | how far it has come: `start N, end N, lag N, held N until MOMENT, ..`, or `held 0, ..`, or `none` |
 use crate::acks::{batches_of, type_count};
 use crate::disks::{mode_of, new_disk, number_text, word_number};
 use crate::logs::answer_text;
@@ -21,8 +26,8 @@ use edge_mem::MemDisk;
 use flex_fields::Items;
 use row_text::bytes_of;
 use share_model::{
-    AckList, AckOutcome, DeleteAnswer, Grant, Name, NoMemory, Reset, StoreFault, Then, ThenOutcome,
-    Visit, VisitAnswer,
+    AckList, AckOutcome, DeleteAnswer, Grant, Name, NoMemory, Offer, Reset, StoreFault,
+    TableSummary, Then, ThenOutcome, Visit, VisitAnswer,
 };
 use share_part::{PartConf, PartShard};
 use std::alloc::Global;
@@ -37,9 +42,9 @@ pub enum Parts {
     Shard(PartShard<MemDisk, WindowRuns>),
 }
 
-/// A shard on empty disks.
-fn opened(alloc: Global) -> io::Result<Parts> {
-    let log = new_disk(alloc, Vec::new(alloc))?;
+/// A shard whose log's disk has a content.
+fn opened(alloc: Global, content: Vec<u8>) -> io::Result<Parts> {
+    let log = new_disk(alloc, content)?;
     let first = new_disk(alloc, Vec::new(alloc))?;
     let second = new_disk(alloc, Vec::new(alloc))?;
     let topic = Uuid::from_bytes([0x11; 16]);
@@ -78,24 +83,35 @@ fn names_of(text: &str) -> Option<(Name, Name, &str)> {
     Some((Name::new(group)?, Name::new(member)?, rest))
 }
 
+/// How many records words ask for, and at which moment; `None` where they say neither.
+fn limits_of(words: &str) -> Option<(u32, u64)> {
+    let (records, moment) = words.split_once(' ')?;
+    Some((records.parse().ok()?, moment.parse().ok()?))
+}
+
 /// Acquires what there is for a member of a group.
 fn fetch(
     alloc: Global,
     shard: &mut PartShard<MemDisk, WindowRuns>,
     group: Name,
     member: Name,
+    words: &str,
 ) -> io::Result<String> {
+    let (records, moment) = limits_of(words).unwrap_or((500, 0));
+    if moment > 1 << 62 {
+        return word(alloc, "no such moment");
+    }
     let visit = Visit {
         group,
         member,
         acks: AckList::new(Items::new(Vec::new(alloc))),
         then: Then::Fetch {
-            records: 500,
+            records,
             bytes: 1 << 20,
             first: true,
         },
     };
-    match shard.visit(0, &visit) {
+    match shard.visit(moment, &visit) {
         Ok(answer) => fetched_text(alloc, &answer),
         Err(_) => word(alloc, "no memory"),
     }
@@ -141,6 +157,25 @@ fn produce(
         Err(fault) => Err(fault),
     };
     Ok(Some(answer_text(alloc, answer)?))
+}
+
+/// Adds a batch so often as the first word says. `None` where the words aren't a number and bytes.
+fn produces(
+    alloc: Global,
+    shard: &mut PartShard<MemDisk, WindowRuns>,
+    text: &str,
+) -> io::Result<Option<String>> {
+    let Some((count, text)) = text.split_once(' ') else {
+        return Ok(None);
+    };
+    let Ok(count) = count.parse::<u32>() else {
+        return Ok(None);
+    };
+    let mut told = None;
+    for _ in 0..count {
+        told = produce(alloc, shard, text)?;
+    }
+    Ok(told)
 }
 
 /// Deletes the records below an offset.
@@ -193,6 +228,56 @@ fn table_text(
     Ok(format!(in alloc; "start {}, {rows}", view.start)?)
 }
 
+/// What a fetch of a group would find.
+fn offer_text(
+    alloc: Global,
+    shard: &PartShard<MemDisk, WindowRuns>,
+    text: &str,
+) -> io::Result<String> {
+    let Some(group) = Name::new(text) else {
+        return word(alloc, "no such words");
+    };
+    match shard.offer(&group) {
+        Offer::NoTable => word(alloc, "no table"),
+        Offer::Slot { offset } => word_number(alloc, "slot", offset),
+        Offer::Nothing => word(alloc, "nothing"),
+    }
+}
+
+/// How many records are held, and until when.
+fn held_text(alloc: Global, summary: &TableSummary) -> io::Result<String> {
+    match summary.first_lock_end {
+        Some(end) => Ok(format!(in alloc; "held {} until {end}", summary.held)?),
+        None => Ok(format!(in alloc; "held {}", summary.held)?),
+    }
+}
+
+/// How far a group has come.
+fn summary_text(
+    alloc: Global,
+    shard: &PartShard<MemDisk, WindowRuns>,
+    text: &str,
+) -> io::Result<String> {
+    let Some(group) = Name::new(text) else {
+        return word(alloc, "no such words");
+    };
+    let Some(summary) = shard.describe(&group) else {
+        return word(alloc, "none");
+    };
+    let held = held_text(alloc, &summary)?;
+    let TableSummary {
+        start,
+        end,
+        lag,
+        acknowledged,
+        archived,
+        ..
+    } = summary;
+    Ok(format!(in alloc;
+        "start {start}, end {end}, lag {lag}, {held}, acknowledged {acknowledged}, archived {archived}"
+    )?)
+}
+
 /// Does a line that names a member of a group. `None` where there is no such line.
 fn on_names(
     alloc: Global,
@@ -204,7 +289,7 @@ fn on_names(
         return Ok(None);
     };
     let told = match kind {
-        "fetch" => fetch(alloc, shard, group, member),
+        "fetch" => fetch(alloc, shard, group, member, rest),
         "acknowledge" => acknowledge(alloc, shard, &group, &member, rest),
         _ => return Ok(None),
     };
@@ -220,10 +305,13 @@ fn told_by(
 ) -> io::Result<Option<String>> {
     let told = match kind {
         "produce" => return produce(alloc, shard, text),
+        "produces" => return produces(alloc, shard, text),
         "delete" => delete(alloc, shard, text),
         "reserve" => done_text(alloc, reserve(shard, text)),
         "arm" => done_text(alloc, arm(shard, text)),
         "table" => table_text(alloc, shard, text),
+        "offer" => offer_text(alloc, shard, text),
+        "describe" => summary_text(alloc, shard, text),
         _ => return on_names(alloc, shard, kind, text),
     };
     Ok(Some(told?))
@@ -238,7 +326,10 @@ impl Parts {
     /// What a line gives. `None` where there is no such line.
     pub fn told(&mut self, alloc: Global, kind: &str, text: &str) -> io::Result<Option<String>> {
         if kind == "open" {
-            self.set(opened(alloc)?);
+            let Some(content) = bytes_of(alloc, text)? else {
+                return Ok(None);
+            };
+            self.set(opened(alloc, content)?);
             return Ok(Some(word(alloc, "ok")?));
         }
         match self {

@@ -50,3 +50,5 @@ pub mod Expiries
 pub mod Expired
 pub mod Acked
 pub mod Ahead
+pub mod Offered
+pub mod Described

@@ -79,7 +79,7 @@ slot_below (b ∷ log) o h (inr s) = slot_below log o h.1 s
 
 -- ---- the batch of a slot
 
-covers_yes : (b : Batch) (o : ℕ) → b.base ≤ o → o ≤ b.last → covers b o ≡ true
+pub covers_yes : (b : Batch) (o : ℕ) → b.base ≤ o → o ≤ b.last → covers b o ≡ true
 covers_yes b o lo hi = grind (arith, nat_tests)
 
 covers_no : (b : Batch) (o : ℕ) → b.last < o → covers b o ≡ false

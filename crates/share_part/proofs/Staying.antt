@@ -32,7 +32,7 @@ last_below : (e : ℕ) (b : Batch) (log : List Batch) → RisesFrom e (b ∷ log
 last_below e b [] h = omega arith
 last_below e b (c ∷ log) h = omega (arith, h.2.0, h.2.1, last_below (b.last + 1) c log h.2)
 
-slot_below_end : (e : ℕ) (log : List Batch) → RisesFrom e log → (o : ℕ) → IsSlot log o → o < end_of log
+pub slot_below_end : (e : ℕ) (log : List Batch) → RisesFrom e log → (o : ℕ) → IsSlot log o → o < end_of log
 slot_below_end e [] h o s = absurd s
 slot_below_end e (b ∷ []) h o (inl s) = omega (arith, s.1)
 slot_below_end e (b ∷ []) h o (inr s) = absurd s

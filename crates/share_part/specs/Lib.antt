@@ -24,3 +24,6 @@ pub mod Deleting
 pub mod Faults
 pub mod Leaving
 pub mod Opening
+pub mod Offering
+pub mod Describing
+pub mod Tallying

@@ -3,6 +3,7 @@ ghost use Rattle.std.specs.Prelude.{◌≡◌, ◌<◌, ◌≤◌, ◌^◌, ℕ,
 ghost use Rattle.std.specs.Option.{option_map};
 ghost use Rattle.std.specs.declared.option.Option.{Option};
 ghost use Rattle.share_model.specs.ForeignRules.{size_of};
+ghost use Rattle.share_model.specs.Held.{without_range};
 ghost use Rattle.share_model.specs.Logs.{end_of};
 ghost use Rattle.part_log.specs.Logs.{log_in};
 ghost use Rattle.share_coord.specs.Holding.{Holds};
@@ -12,11 +13,13 @@ ghost use Rattle.share_part.specs.Deleting.{holds_from, target_of};
 ghost use Rattle.share_part.specs.Shards.{held_in};
 
 use edge_io::Disk;
-use lock_index::Window;
+use lock_index::{Steps, Window};
 use part_log::PartLog;
 use share_coord::Coord;
 use share_model::Name;
 use std::collections::BTreeMap;
+use std::marker::Brand;
+use std::sync::ledger::{Blank, Ledger};
 
 // The offset that a number is, or 0 where it is none.
 fn offset_of(number: i64) -> u64
@@ -56,6 +59,24 @@ pub fn raise_tables<D: Disk>(states: &mut Coord<D>, start: u64)
     states.raise_all(start as i64);
 }
 
+// Ends what a window holds up to an offset, and counts the steps in a ledger.
+fn end_in_ledger<W: Window, L: Ledger>(window: &mut W, last: u64, blank: Blank)
+    requires name { blank.name ≡ L.name }
+    requires parts { blank.parts ≡ L.parts }
+    requires some { 0 < blank.parts }
+    ensures { W.held window.new ≡ without_range 0 last (W.held window.old) }
+{
+    let mut steps = Steps::<L>::new(blank);
+    window.end_hold_counted(0, last, &mut steps);
+}
+
+// The same in a ledger of its own.
+fn end_up_to<W: Window>(window: &mut W, last: u64)
+    ensures { W.held window.new ≡ without_range 0 last (W.held window.old) }
+{
+    end_in_ledger::<W, Brand>(window, last, Blank::new(1));
+}
+
 /// Ends what each group holds below an offset.
 pub fn raise_windows<W: Window>(windows: &mut BTreeMap<Name, W>, start: u64)
     requires { 0 < start }
@@ -64,7 +85,7 @@ pub fn raise_windows<W: Window>(windows: &mut BTreeMap<Name, W>, start: u64)
 {
     let last = start - 1;
     windows.retain(|_, window| {
-        window.end_hold(0, last);
+        end_up_to(window, last);
         true
     });
 }

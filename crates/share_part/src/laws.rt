@@ -1,4 +1,4 @@
-ghost use Rattle.std.specs.Prelude.{◌≡◌, ◌⊎◌, ◌≤◌, ◌<◌, ℕ, List, Some, Bool, true, length};
+ghost use Rattle.std.specs.Prelude.{◌≡◌, ◌⊎◌, ◌≤◌, ◌<◌, ℕ, List, Some, Bool, true, length, map, option_to_list};
 ghost use Rattle.std.specs.BTreeMap.{insert_entry};
 ghost use Rattle.std.specs.List.{Contains};
 ghost use Rattle.std.specs.Option.{option_or};
@@ -17,10 +17,12 @@ ghost use Rattle.part_log.specs.Starts.{Log};
 ghost use Rattle.share_coord.specs.Stored.{Entries};
 ghost use Rattle.share_part.specs.Hosting.{AreHeldWell, IsHosted, PartConfParts, key_of};
 ghost use Rattle.share_coord.specs.States.{states_of};
+ghost use Rattle.share_part.specs.Offering.{least_available};
 ghost use Rattle.share_part.specs.Settling.{Acts, AreRisingFrom, Books, Change, IsChange, IsSettled, acted, acts_on, held_after, releasing, said_by};
 ghost use Rattle.share_part.specs.Slots.{slots_from};
 ghost use Rattle.share_part.specs.Storing.{IsStored};
 ghost use Rattle.share_part.specs.Tables.{Table, table_of};
+ghost use Rattle.share_part.specs.Walks.{acquired};
 
 /// A state that a hosted partition may have stays one once acts on its table are stored, where what is held lies
 /// among the first 2000 slots and is delivered for the tenth time at most.
@@ -66,4 +68,12 @@ pub fn releases_keep_counts()
         IsSettled limit (releasing chosen table.held) log table next → (offset : ℕ) (hold : Hold) → hold_at table.held offset ≡ Some hold →
         chosen hold ≡ true → limit ≤ hold.count →
         (offset < size_of next.start) ⊎ (row_at next.runs offset ≡ Some (record { state = Archived; count = hold.count })) }
+{}
+
+/// The slot that is offered of a table is the one that a fetch of one record would take right behind it, if no batch is
+/// in its reply yet; it takes none where none is offered.
+pub fn a_fetch_takes_what_is_offered()
+    ensures { (log : List Batch) (table : Table) (bytes : ℕ) → IsLog log →
+        map (λ taken. taken.0) (acquired log table (record { records = 1; bytes = bytes; first = true })).taken
+        ≡ option_to_list (least_available log table) }
 {}

@@ -17,11 +17,14 @@ ghost use Rattle.share_coord.specs.Opening.{IsOpened as AreOpened, IsNotOpened a
 ghost use Rattle.share_part.specs.Opening.{IsOpened, IsNotOpened};
 ghost use Rattle.offset_runs.specs.Changes.{room_of};
 ghost use Rattle.share_part.specs.Deleting.{DeletesOnce, IsTellableDelete, target_of};
+ghost use Rattle.share_part.specs.Describing.{summary_of};
 ghost use Rattle.share_part.specs.Foreseeing.{with_ack};
 ghost use Rattle.share_part.specs.Hosting.{key_of};
 ghost use Rattle.share_coord.specs.States.{state_found, states_of};
 ghost use Rattle.share_part.specs.Acknowledging.{AreWithinAcks};
 ghost use Rattle.share_part.specs.Following.{IsEmptyAnswer, IsFetch};
+ghost use Rattle.share_part.specs.Offering.{offer_of};
+ghost use Rattle.share_part.specs.Tables.{table_of};
 ghost use Rattle.share_part.specs.Shards.{Carries, PartShardState, held_in, placed_at, spare_of};
 ghost use Rattle.share_part.specs.Releasing.{ReleasesOnce};
 ghost use Rattle.share_part.specs.Visits.{acks_alone, told_alone};
@@ -31,9 +34,11 @@ ghost use Rattle.share_part.specs.Once.{ExpiresOnce, FollowsOnce, VisitsOnce, Pr
 use crate::acks::{judge_acks, judge_given, settle_acks, settle_given};
 use crate::conf::PartConf;
 use crate::delete::{raise_tables, raise_windows, target};
+use crate::describing::describe;
 use crate::fetch::{append_batches, has_table, make_table};
 use crate::judge::are_hosted;
 use crate::limits::Limits;
+use crate::offering::offer;
 use crate::opening::{PartFault, PartOpen, fault_of_log, fault_of_states};
 use crate::ready::{chosen, hand_out, prepared, ready};
 use crate::release::{Released, outcome_of, release_held};
@@ -46,8 +51,8 @@ use offset_runs::Runs;
 use part_log::PartLog;
 use share_coord::{Coord, CoordOpen, StateView, States};
 use share_model::{
-    AckBatch, AckOutcome, DeleteAnswer, ExpireAnswer, LogFault, Name, NoMemory, Placed, Room,
-    StoreFault, Then, ThenOutcome, Visit, VisitAnswer,
+    AckBatch, AckOutcome, DeleteAnswer, ExpireAnswer, LogFault, Name, NoMemory, Offer, Placed,
+    Room, StoreFault, TableSummary, Then, ThenOutcome, Visit, VisitAnswer,
 };
 use std::alloc::Global;
 use std::collections::BTreeMap;
@@ -642,6 +647,55 @@ impl<D: Disk, W: Window> PartShard<D, W> {
             Some(key) => Some(&key.group),
             None => None,
         }
+    }
+
+    /// What a fetch of a group would find now: the least slot that may be acquired, among the first 2000 from the start
+    /// of the group's table. It costs the runs and the batches that it walks, and takes no memory.
+    pub fn offer(&self, group: &Name) -> Offer
+        ensures { result ≡ offer_of self.now.log.batches (held_in W.held self.now.windows group.now)
+            (share_state_at (states_of self.now.states.entries) (key_of self.now.conf group.now)) }
+    {
+        offer(
+            self.alloc,
+            &self.conf,
+            &self.log,
+            &self.states,
+            &self.windows,
+            group,
+        )
+    }
+
+    /// How far a group has come: where its table starts, what isn't complete yet, and what is held. `None` where the
+    /// group has no table. It costs the runs of the table and of what is held, and takes no memory.
+    pub fn describe(&self, group: &Name) -> Option<TableSummary>
+        ensures { result ≡ option_map (λ state. summary_of self.now.log.batches
+            (table_of state (held_in W.held self.now.windows group.now)))
+            (share_state_at (states_of self.now.states.entries) (key_of self.now.conf group.now)) }
+    {
+        describe(
+            self.alloc,
+            &self.conf,
+            &self.log,
+            &self.states,
+            &self.windows,
+            group,
+        )
+    }
+
+    /// The offset at which the log starts.
+    pub fn log_start(&self) -> u64
+        ensures value { result ≡ self.now.log.start }
+        ensures within { result ≤ end_of self.now.log.batches }
+    {
+        self.log.start()
+    }
+
+    /// The log's end, at most 2^62.
+    pub fn log_end(&self) -> u64
+        ensures end { result ≡ end_of self.now.log.batches }
+        ensures below { result ≤ 2 ^ 62 }
+    {
+        self.log.end()
     }
 
     /// Whether a call of one of its disks has failed for want of memory.

@@ -6,6 +6,7 @@ ghost use Rattle.share_model.specs.Runs.{IsCanonical};
 ghost use Rattle.share_model.specs.declared.row.RowState.TheVariants.{Available};
 ghost use Rattle.part_log.specs.Logs.{IsStoredLog};
 ghost use Rattle.share_part.specs.Collecting.{Collects, GoesOver, IsPlanOf, IsStretch, LieAtSlots, left_by};
+ghost use Rattle.share_part.specs.Offering.{least_available};
 ghost use Rattle.share_part.specs.Slots.{next_slot};
 ghost use Rattle.share_part.specs.Tables.{MayGoOut, one_more};
 ghost use Rattle.share_part.specs.Walks.{Walk, acquired};
@@ -190,6 +191,38 @@ fn collect<D: Disk, W: Window>(
         left -= n;
     }
     Ok(collector)
+}
+
+/// The least slot that a walk over a table with this start, these rows and these holds would take first. It costs the
+/// runs and the batches that it walks, and takes no memory.
+pub fn least_available<D: Disk, W: Window>(
+    log: &PartLog<D>,
+    start: u64,
+    rows: &Runs,
+    window: &W,
+) -> Option<u64>
+    requires sound { IsStoredLog log.now.batches }
+    requires above { log.now.start ≤ start }
+    requires rows { MayGoOut rows.now.list }
+    requires lie { LieAtSlots log.now.batches rows.now.list (W.held window.now) }
+    ensures { result ≡ least_available log.now.batches
+        (record { start = start; rows = rows.now.list; held = W.held window.now }) }
+{
+    let mut from = start;
+    let mut left = WINDOW_SLOTS;
+    while left > 0 {
+        let Some(slot) = next_slot(log, from) else {
+            return None;
+        };
+        let stretch = stretch_from(rows, window, slot);
+        if stretch.count.is_some() {
+            return Some(slot);
+        }
+        let n = u64::from(left - 1).min(stretch.last - slot) as u32 + 1;
+        from = slot + u64::from(n);
+        left -= n;
+    }
+    None
 }
 
 /// What a fetch will take of a table with this start, these rows and these holds, once `changed` is laid over the rows
