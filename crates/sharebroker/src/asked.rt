@@ -21,7 +21,7 @@ fn asks_help(word: &str) -> bool {
 }
 
 // What these words ask, where they ask for one of these and nothing else.
-fn asked(words: &[String]) -> Option<Asked<'_>> {
+fn find_asked(words: &[String]) -> Option<Asked<'_>> {
     let (first, rest) = words.split_first()?;
     let first = first.as_str();
     let Some(second) = rest.first() else {
@@ -76,7 +76,7 @@ fn version_text(rt: &HostRuntime) -> Result<String, AllocError> {
 
 /// What is told on standard output, where the words ask for it and for nothing else.
 pub fn answer(rt: &HostRuntime, words: &[String]) -> Result<Option<String>, AllocError> {
-    match asked(words) {
+    match find_asked(words) {
         Some(Asked::Usage(name)) => Ok(Some(usage_text(rt.alloc(), name)?)),
         Some(Asked::Version) => Ok(Some(version_text(rt)?)),
         None => Ok(None),

@@ -6,6 +6,7 @@ use std::alloc::{AllocError, Global};
 use strsim::levenshtein;
 
 // What an option takes.
+#[derive(Drop)]
 enum Takes {
     Number { least: u64, most: u64 },
     One(&'static [&'static str]),
@@ -14,7 +15,7 @@ enum Takes {
 }
 
 // What the option of this name takes.
-fn takes(option: &str) -> Takes {
+fn takes_of(option: &str) -> Takes {
     match option {
         "workers" => Takes::Number {
             least: 1,
@@ -64,7 +65,7 @@ fn is_address(text: &str) -> bool {
 
 // What is wrong of the value of an option, if anything is.
 fn wrong_value(alloc: Global, option: &str, value: &str) -> Result<Option<String>, AllocError> {
-    let text = match takes(option) {
+    let text = match takes_of(option) {
         Takes::Number { least, most } if !is_number(value, least, most) => {
             format!(in alloc; "--{option} takes {least} to {most}, not {value}")?
         }
