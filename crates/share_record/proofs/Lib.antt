@@ -1,0 +1,2 @@
+-- Recorded: what a recorder keeps over a history.
+pub mod Recorded
