@@ -117,9 +117,9 @@ fn wrong_option(
     word: &str,
     options: &[&'static str],
 ) -> Result<String, AllocError> {
-    if let Some((option, value)) = word.split_once('=') {
+    if let Some((option, _)) = word.split_once('=') {
         if options.iter().any(|&known| known == option) {
-            return format!(in alloc; "--{word} has to be two words: --{option} {value}");
+            return format!(in alloc; "--{word} has to be two words, with no =");
         }
     }
     match nearest(alloc, word, options)? {
