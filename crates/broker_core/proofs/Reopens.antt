@@ -12,7 +12,12 @@ use Rattle.share_coord.specs.Raising.{raised_states}
 use Rattle.share_coord.specs.States.{AreStates, states_of}
 use Rattle.share_part.specs.Hosting.{ArePartText, PartConfParts}
 use Rattle.share_part.specs.Leaving.{IsLeftOf}
-use Rattle.share_part.specs.Opening.{IsOpened}
+use Rattle.edge_io.specs.declared.name.DiskPlace.{DiskPlace}
+use Rattle.edge_io.specs.declared.name.DiskPlace.TheVariants.{Log as LogDisk, LogB, StateA, StateB}
+use Rattle.coord_checkpoint.specs.Disks.{HasFailed}
+use Rattle.share_part.specs.Opening.{IsNotOpened, IsOpened}
+use Rattle.share_part.specs.declared.opening.PartFault.{PartFault}
+use Rattle.share_part.specs.declared.opening.PartFault.TheVariants.{Device}
 use Rattle.share_part.specs.Shards.{Carries, PartShardState, shard_with}
 use Rattle.share_part.proofs.Leavings.{left_of}
 use Rattle.broker_core.specs.declared.fault.CoreOpen.{CoreOpen}
@@ -22,6 +27,15 @@ use Rattle.broker_core.specs.Hosts.{PartStandsAlone}
 use Rattle.broker_core.specs.Restarts.{IsLost, IsOpenedPart, IsRestartedPart, PartImagesStandAs}
 use Rattle.broker_core.proofs.Opening.{AreAlike, one_fault_left, opened_disk, restarted_disk, stored_alike, told_of}
 use Rattle.edge_io.specs.Views.{DiskView}
+
+-- a partition that a device fault kept from being opened has a disk of these three that failed
+pub one_failed : {D : Type 0} (seen : D → DiskView) (conf : PartConfParts) (log a b log_now a_now b_now : D) (why : PartFault) (disk : DiskPlace)
+    → IsNotOpened seen conf log a b log_now a_now b_now why → why ≡ Device disk → disk ≢ LogB
+    → HasFailed seen log log_now ⊎ (HasFailed seen a a_now ⊎ HasFailed seen b b_now)
+one_failed seen conf log a b log_now a_now b_now why LogDisk r is not = inl (r.log_device is)
+one_failed seen conf log a b log_now a_now b_now why LogB r is not = absurd (not refl)
+one_failed seen conf log a b log_now a_now b_now why StateA r is not = inr (inl (r.first_device is))
+one_failed seen conf log a b log_now a_now b_now why StateB r is not = inr (inr (r.second_device is))
 
 -- they stand for the same log
 pub same_text : (c x : List ℕ) (b : Log) → AreAlike c x → IsLogText c b → IsLogText x b

@@ -1,7 +1,8 @@
-use Rattle.std.proofs.Common.{◌≡◌, false, subst, sym, List, ℕ}
+use Rattle.std.proofs.Common.{◌≡◌, ◌∙◌, ◌⊎◌, false, true, inl, inr, subst, sym, List, ℕ}
+use Rattle.std.proofs.lemmas.Bool.{false≢true}
 use Rattle.gate_journal.specs.Frames.{StandsAs}
 use Rattle.broker_core.proofs.Images.{reopened_images}
-use Rattle.broker_core.proofs.Reopens.{fed_three, opened_part}
+use Rattle.broker_core.proofs.Reopens.{fed_three, one_failed, opened_part}
 use Rattle.broker_core.proofs.part.open_part.Goals as goal
 
 pub returns-else-starved-clause-opens : goal.returns-else-starved-clause-opens
@@ -46,3 +47,26 @@ returns-else-starved-clause-images g c = record {
   on_first = reopened_images g.D.Disk.seen g.met.D.Disk.counts_now _ _ c.in-Ok.ensures.both.one.any_moment;
   on_second = reopened_images g.D.Disk.seen g.met.D.Disk.counts_now _ _ c.in-Ok.ensures.both.two.any_moment;
 }
+
+pub returns-else-one_starved-clause-sound : goal.returns-else-one_starved-clause-sound
+returns-else-one_starved-clause-sound g c = λ told first_told second_told none first_none second_none e.
+    let why = c.fault_of_open-fault.ensures.device e in
+    let fed = c.one_starved.ensures c.if-one_starved.false in
+    elim (one_failed g.D.Disk.seen c.args.conf _ _ _ _ _ _ _ why.0 c.in-Err.ensures.refused why.1 why.2) [
+      | inl h ↦ false≢true (sym fed.0 ∙ h.1 told none)
+      | inr more ↦ elim more [
+        | inl h ↦ false≢true (sym fed.1 ∙ h.1 first_told first_none)
+        | inr h ↦ false≢true (sym fed.2 ∙ h.1 second_told second_none)
+      ]
+    ]
+
+pub returns-else-one_starved-clause-device : goal.returns-else-one_starved-clause-device
+returns-else-one_starved-clause-device g c = λ e.
+    let why = c.fault_of_open-fault.ensures.device e in
+    elim (one_failed g.D.Disk.seen c.args.conf _ _ _ _ _ _ _ why.0 c.in-Err.ensures.refused why.1 why.2) [
+      | inl h ↦ inl h.0
+      | inr more ↦ elim more [
+        | inl h ↦ inr (inl h.0)
+        | inr h ↦ inr (inr h.0)
+      ]
+    ]
