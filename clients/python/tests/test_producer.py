@@ -181,7 +181,7 @@ class Failing(BrokerCase):
             first = producer.send("orders", bytes(600000))
             with self.assertRaises(BufferFull):
                 producer.send("orders", bytes(600000))
-        self.assertEqual(0, first.result(10).offset)
+        self.assertEqual(0, first.result(60).offset)
         self.assertEqual(1, producer.send("orders", bytes(600000)).result(10).offset)
 
     def test_a_broker_that_is_gone(self):
