@@ -4,6 +4,7 @@ use Rattle.edge_io.specs.Armed.{RunsOn}
 use Rattle.edge_io.specs.Moments.{LeavesOnly}
 use Rattle.edge_io.specs.Views.{DiskView}
 use Rattle.edge_io.proofs.Moments.{joined, started, weakened}
+use Rattle.edge_io.proofs.Counting.{calls_none}
 use Rattle.edge_io.proofs.Runs.{runs_none, runs_then}
 use Rattle.gate_journal.specs.Frames.{IsBeforeOrAfter, StandsFor}
 use Rattle.gate_journal.specs.Journals.{IsAtRest, Stands}
@@ -12,9 +13,10 @@ use Rattle.gate_journal.specs.Spares.{HasFrames, IsSpare}
 use Rattle.gate_journal.proofs.Spares.{either_way, spare_as, spare_either, spare_rest}
 use Rattle.checkpoint_journal.specs.Checkpoints.{AreSnapshots, IsNext, IsUnfinished}
 use Rattle.checkpoint_journal.specs.Generations.{IsBeaten, checkpoint_of, head_frame, seal_frame}
-use Rattle.checkpoint_journal.specs.Making.{IsMaking}
+use Rattle.checkpoint_journal.specs.Making.{DoesSome, FailsOrFull, Halts, IsMaking}
 use Rattle.checkpoint_journal.specs.Spares.{IsBeside, IsIdle}
 use Rattle.checkpoint_journal.proofs.Marks.{begun, snapshots_push}
+use Rattle.checkpoint_journal.proofs.Stopping.{full_halts, some_then}
 
 -- ---- frames that are not finished
 
@@ -54,6 +56,7 @@ pub record Handing {D : Type 0} (seen : D → DiskView) (old now : Writer D) (al
   pub snapshots : AreSnapshots given
   pub left_is : length rest ≡ left
   pub runs : RunsOn seen old.disk now.disk
+  pub does : DoesSome seen old.disk now.disk
   pub rests : (n : ℕ) → n < 2 ^ 64 → IsAtRest seen old (head_frame n ∷ []) → IsAtRest seen now (head_frame n ∷ given)
   pub moments : (n : ℕ) → n < 2 ^ 64 → IsAtRest seen old (head_frame n ∷ []) → LeavesOnly seen old.disk now.disk (HasFrames IsUnfinished)
 
@@ -66,6 +69,7 @@ module _ {D : Type 0} (seen : D → DiskView)
     snapshots = tt;
     left_is = e;
     runs = runs_none seen old.disk;
+    does = (0, calls_none seen old.disk);
     rests = λ n lt h. h;
     moments = λ n lt h. started seen old.disk (HasFrames IsUnfinished) (λ c left.
         (head_frame n ∷ [], at_rest_frames seen old (head_frame n ∷ []) h c (only_now old.disk c left), unfinished n [] lt tt));
@@ -76,6 +80,9 @@ module _ {D : Type 0} (seen : D → DiskView) (old mid new : Writer D) (all rest
   pub handing_stops : (n : ℕ) → n < 2 ^ 64 → IsAtRest seen old (head_frame n ∷ []) → IsSpare seen mid IsUnfinished
   handing_stops n lt was =
       spare_rest seen mid IsUnfinished (head_frame n ∷ h.given) (inl refl) (unfinished n h.given lt h.snapshots) (h.rests n lt was).stands
+
+  pub handing_halts : (n : ℕ) → n < 2 ^ 64 → IsAtRest seen old (head_frame n ∷ []) → Halts seen old mid n
+  handing_halts n lt was = inr (h.does, head_frame n ∷ h.given, inr (h.given, refl), h.rests n lt was)
 
   pub handing_all : left ≡ 0 → h.given ≡ all
   handing_all none = none_left rest h.given (h.left_is ∙ none) h.is
@@ -100,15 +107,19 @@ module _ {D : Type 0} (seen : D → DiskView) (old mid new : Writer D) (all rest
     handing_fails fails n lt was = spare_either seen new IsUnfinished (head_frame n ∷ h.given) frame (inl refl) (unfinished n h.given lt h.snapshots)
         (unfinished n (h.given ++ frame ∷ []) lt (snapshots_push h.given frame h.snapshots next.snapshot)) (fails (head_frame n ∷ h.given) (h.rests n lt was))
 
+    pub handing_ends : FailsOrFull seen mid new → (n : ℕ) → n < 2 ^ 64 → IsAtRest seen old (head_frame n ∷ []) → Halts seen old new n
+    handing_ends fails n lt was = full_halts seen old mid new n h.runs fails (handing_halts n lt was)
+
     -- and one that was
-    pub handing_more : (fewer : ℕ) → left ≡ fewer + 1 → RunsOn seen mid.disk new.disk
+    pub handing_more : (fewer : ℕ) → left ≡ fewer + 1 → RunsOn seen mid.disk new.disk → DoesSome seen mid.disk new.disk
         → ((frames : List (List ℕ)) → IsAtRest seen mid frames → IsAtRest seen new (frames ++ frame ∷ [])) → Handing seen old new all others fewer
-    handing_more fewer less runs adds = record {
+    handing_more fewer less runs does adds = record {
       given = h.given ++ frame ∷ [];
       is = h.is ∙ ap (λ (l : List (List ℕ)). h.given ++ l) next.is ∙ sym (append_assoc h.given (frame ∷ []) others);
       snapshots = snapshots_push h.given frame h.snapshots next.snapshot;
       left_is = let n = ap length next.is in omega (arith, n, h.left_is, less);
       runs = runs_then seen old.disk mid.disk new.disk h.runs runs;
+      does = some_then seen old.disk mid.disk new.disk h.runs h.does does;
       rests = λ n lt was. adds (head_frame n ∷ h.given) (h.rests n lt was);
       moments = handing_moments;
     }

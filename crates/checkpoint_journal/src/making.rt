@@ -2,13 +2,15 @@
 ghost use Rattle.std.specs.Prelude.{◌≡◌, ◌⊎◌, ◌<◌, ◌^◌, ◌++◌, [], ◌∷◌, List, ℕ, Bool, Some, None, IfErr, OnOk, OnErr};
 ghost use Rattle.std.specs.declared.option.Option.{Option};
 ghost use Rattle.edge_io.specs.Armed.{RunsOn};
+ghost use Rattle.edge_io.specs.Causes.{Rose};
+ghost use Rattle.edge_io.specs.Counting.{DoesCalls};
 ghost use Rattle.edge_io.specs.Moments.{LeavesOnly};
 ghost use Rattle.gate_journal.specs.Frames.{IsBeforeOrAfter, IsFrame, frame_in};
-ghost use Rattle.gate_journal.specs.Journals.{IsAtRest, Stands};
+ghost use Rattle.gate_journal.specs.Journals.{IsAtRest, IsQuiet, Stands};
 ghost use Rattle.gate_journal.specs.Spares.{HasFrames, IsSpare};
 ghost use Rattle.checkpoint_journal.specs.Checkpoints.{AreSnapshots, IsUnfinished};
 ghost use Rattle.checkpoint_journal.specs.Generations.{checkpoint_of, head_frame, seal_frame};
-ghost use Rattle.checkpoint_journal.specs.Making.{IsMaking, IsUnmade};
+ghost use Rattle.checkpoint_journal.specs.Making.{DoesSome, FailsOrFull, Halts, HasStopped, IsMaking, IsUnmade};
 ghost use Rattle.checkpoint_journal.specs.Spares.{IsBeside, IsIdle};
 
 use crate::head::{head_buffer, seal_buffer};
@@ -41,6 +43,8 @@ fn erase<D: Disk>(idle: &mut Journal<D>) -> Result<(), NotMade>
     ensures any_moment { (on_second : Bool) (live : ℕ) (sealing : Option (List (List ℕ))) → IsBeside D.seen idle.old on_second live sealing →
         LeavesOnly D.seen idle.old.disk idle.new.disk (HasFrames (IsIdle on_second live sealing)) }
     ensures runs { RunsOn D.seen idle.old.disk idle.new.disk }
+    ensures calls { OnOk result ((n : ℕ) × (0 < n) × DoesCalls D.seen n idle.old.disk idle.new.disk) }
+    ensures rose { OnErr result (Rose (D.seen idle.old.disk).faults (D.seen idle.new.disk).faults) }
 {
     match idle.clear() {
         Ok(()) => Ok(()),
@@ -57,6 +61,8 @@ fn put_frame<D: Disk>(idle: &mut Journal<D>, buffer: &mut [u8]) -> Result<(), No
     ensures any_moment { (frames : List (List ℕ)) → IsAtRest D.seen idle.old frames →
         LeavesOnly D.seen idle.old.disk idle.new.disk (IsBeforeOrAfter frames (frame_in buffer.old)) }
     ensures runs { RunsOn D.seen idle.old.disk idle.new.disk }
+    ensures calls { OnOk result (DoesSome D.seen idle.old.disk idle.new.disk) }
+    ensures stops { OnErr result (FailsOrFull D.seen idle.old idle.new) }
 {
     match idle.append(buffer) {
         Ok(_) => Ok(()),
@@ -70,6 +76,8 @@ fn write_head<D: Disk>(idle: &mut Journal<D>, generation: u64) -> Result<(), Not
     ensures failed { OnErr result (IsAtRest D.seen idle.old [] → IsSpare D.seen idle.new IsUnfinished) }
     ensures any_moment { IsAtRest D.seen idle.old [] → LeavesOnly D.seen idle.old.disk idle.new.disk (HasFrames IsUnfinished) }
     ensures runs { RunsOn D.seen idle.old.disk idle.new.disk }
+    ensures calls { OnOk result (DoesSome D.seen idle.old.disk idle.new.disk) }
+    ensures stops { OnErr result (FailsOrFull D.seen idle.old idle.new) }
 {
     let mut buffer = head_buffer(generation);
     match put_frame(idle, &mut buffer) {
@@ -91,6 +99,8 @@ fn write_snapshots<D: Disk, S: Snapshots>(
     ensures any_moment { (n : ℕ) → n < 2 ^ 64 → IsAtRest D.seen idle.old (head_frame n ∷ []) →
         LeavesOnly D.seen idle.old.disk idle.new.disk (HasFrames IsUnfinished) }
     ensures runs { RunsOn D.seen idle.old.disk idle.new.disk }
+    ensures calls { OnOk result (DoesSome D.seen idle.old.disk idle.new.disk) }
+    ensures stops { OnErr result ((n : ℕ) → n < 2 ^ 64 → IsAtRest D.seen idle.old (head_frame n ∷ []) → Halts D.seen idle.old idle.new n) }
 {
     let mut buffer = Vec::new(alloc);
     let count = snapshots.count();
@@ -117,6 +127,8 @@ fn write_unsealed<D: Disk, S: Snapshots>(
     ensures failed { OnErr result (IsAtRest D.seen idle.old [] → IsSpare D.seen idle.new IsUnfinished) }
     ensures any_moment { IsAtRest D.seen idle.old [] → LeavesOnly D.seen idle.old.disk idle.new.disk (HasFrames IsUnfinished) }
     ensures runs { RunsOn D.seen idle.old.disk idle.new.disk }
+    ensures calls { OnOk result (DoesSome D.seen idle.old.disk idle.new.disk) }
+    ensures stops { OnErr result (IsAtRest D.seen idle.old [] → Halts D.seen idle.old idle.new generation) }
 {
     if let Err(_) = write_head(idle, generation) {
         return Err(NotMade);
@@ -135,6 +147,8 @@ fn write_seal<D: Disk>(idle: &mut Journal<D>) -> Result<(), NotMade>
     ensures any_moment { (frames : List (List ℕ)) → IsAtRest D.seen idle.old frames →
         LeavesOnly D.seen idle.old.disk idle.new.disk (IsBeforeOrAfter frames seal_frame) }
     ensures runs { RunsOn D.seen idle.old.disk idle.new.disk }
+    ensures calls { OnOk result (DoesSome D.seen idle.old.disk idle.new.disk) }
+    ensures stops { OnErr result (FailsOrFull D.seen idle.old idle.new) }
 {
     let mut buffer = seal_buffer();
     match put_frame(idle, &mut buffer) {
@@ -166,6 +180,11 @@ pub fn write_checkpoint<D: Disk, S: Snapshots>(
     ensures any_moment { (on_second : Bool) (live : ℕ) (sealing : Option (List (List ℕ))) → IsBeside D.seen idle.old on_second live sealing →
         LeavesOnly D.seen idle.old.disk idle.new.disk (HasFrames (IsMaking on_second live sealing generation (S.rest snapshots.old))) }
     ensures runs { RunsOn D.seen idle.old.disk idle.new.disk }
+
+    // At Ok no call of the disk failed. At Err one did, or what the disk had is gone.
+    ensures quiet { OnOk result (IsQuiet D.seen idle.old.disk idle.new.disk) }
+    ensures stops { OnErr result ((on_second : Bool) (live : ℕ) (sealing : Option (List (List ℕ))) → IsBeside D.seen idle.old on_second live sealing →
+        HasStopped D.seen idle.old idle.new generation) }
 {
     if let Err(_) = erase(idle) {
         return Err(CheckpointFault::Uncleared);

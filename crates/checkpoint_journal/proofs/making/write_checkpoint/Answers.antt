@@ -1,4 +1,4 @@
-use Rattle.std.proofs.Common.{◌∷◌, arith}
+use Rattle.std.proofs.Common.{◌∷◌, arith, inl, inr, refl}
 use Rattle.edge_io.proofs.Moments.{joined, weakened}
 use Rattle.edge_io.proofs.Runs.{runs_then}
 use Rattle.gate_journal.specs.Frames.{IsBeforeOrAfter}
@@ -8,6 +8,7 @@ use Rattle.checkpoint_journal.specs.Generations.{head_frame, seal_frame}
 use Rattle.checkpoint_journal.specs.Making.{IsMaking}
 use Rattle.checkpoint_journal.specs.Spares.{IsIdle}
 use Rattle.checkpoint_journal.proofs.Writing.{idle_making, seal_fails, sealed_making, unfinished_making, unsealed_beside}
+use Rattle.checkpoint_journal.proofs.Stopping.{full_halts, some_quiet, some_then, stopped}
 use Rattle.checkpoint_journal.proofs.making.write_checkpoint.Goals as goal
 
 pub returns-in-Err-clause-any_moment : goal.returns-in-Err-clause-any_moment
@@ -84,3 +85,28 @@ returns-in-Err-write_seal-clause-any_moment g c = λ on_second live sealing b.
 
 pub returns-in-Err-write_seal-clause-runs : goal.returns-in-Err-write_seal-clause-runs
 returns-in-Err-write_seal-clause-runs g c = runs_then g.D.Disk.seen _ _ _ (runs_then g.D.Disk.seen _ _ _ c.erase.ensures.runs c.write_unsealed.ensures.runs) c.write_seal.ensures.runs
+
+pub returns-in-Ok-clause-quiet : goal.returns-in-Ok-clause-quiet
+returns-in-Ok-clause-quiet g c = some_quiet g.D.Disk.seen _ _ (some_then g.D.Disk.seen c.args.idle.now.disk c.erase.new.idle.disk c.write_seal.new.idle.disk c.erase.ensures.runs
+    (c.in_default.ensures.calls.0, c.in_default.ensures.calls.2)
+    (some_then g.D.Disk.seen c.erase.new.idle.disk c.write_unsealed.new.idle.disk c.write_seal.new.idle.disk c.write_unsealed.ensures.runs
+    c.in_default-write_unsealed.ensures.calls c.in-Ok.ensures.calls))
+
+pub returns-in-Err-clause-stops : goal.returns-in-Err-clause-stops
+returns-in-Err-clause-stops g c = λ on_second live sealing b. inl c.in-Err.ensures.rose
+
+pub returns-in-Err-write_unsealed-clause-stops : goal.returns-in-Err-write_unsealed-clause-stops
+returns-in-Err-write_unsealed-clause-stops g c = λ on_second live sealing b.
+    stopped g.D.Disk.seen c.args.idle.now c.erase.new.idle c.write_unsealed.new.idle c.args.generation c.erase.ensures.runs c.in_default.ensures.calls
+    (c.in-Err-write_unsealed.ensures.stops (c.in_default.ensures.ok on_second live sealing b))
+
+pub returns-in-Err-write_seal-clause-stops : goal.returns-in-Err-write_seal-clause-stops
+returns-in-Err-write_seal-clause-stops g c = λ on_second live sealing b.
+    stopped g.D.Disk.seen c.args.idle.now c.erase.new.idle c.write_seal.new.idle c.args.generation c.erase.ensures.runs c.in_default.ensures.calls
+    (full_halts g.D.Disk.seen c.erase.new.idle c.write_unsealed.new.idle c.write_seal.new.idle c.args.generation c.write_unsealed.ensures.runs
+    c.in-Err-write_seal.ensures.stops (inr (
+      c.in_default-write_unsealed.ensures.calls,
+      head_frame c.args.generation ∷ g.S.Snapshots.rest c.args.snapshots.now,
+      inr (g.S.Snapshots.rest c.args.snapshots.now, refl),
+      c.in_default-write_unsealed.ensures.ok (c.in_default.ensures.ok on_second live sealing b),
+    )))
