@@ -11,14 +11,15 @@ use Rattle.gate_journal.specs.declared.writer.Writer.{Writer}
 use Rattle.gate_journal.specs.Spares.{HasFrames}
 use Rattle.checkpoint_journal.specs.Generations.{IsBeaten, IsPlain, IsWhole, head_frame, mark_of, seal_frame}
 use Rattle.checkpoint_journal.specs.Spares.{IsAside}
-use Rattle.coord_checkpoint.specs.Stores.{AreSides, Finds, Keeps, MaySeal, StoreParts, idle_side, live_side}
-use Rattle.coord_checkpoint.specs.Steps.{HasCheckpoint, IsNextTurn, IsPreparing, IsReady, IsSameTurn, IsTried, StaysReady, placed}
-use Rattle.coord_checkpoint.specs.Writes.{IsLeftTrying, StaysOn, Tries}
+use Rattle.coord_checkpoint.specs.Stores.{AreSides, Finds, Keeps, MayMake, MaySeal, StoreParts, idle_side, live_side}
+use Rattle.checkpoint_journal.specs.Making.{HasStopped}
+use Rattle.coord_checkpoint.specs.Steps.{HasCheckpoint, HasTried, IsDueAt, IsNextTurn, IsPreparing, IsReady, IsSameTurn, IsTried, StaysReady, placed}
+use Rattle.coord_checkpoint.specs.Writes.{IsLeftTrying, IsTimely, StaysOn, Tries, other_side}
 use Rattle.coord_checkpoint.specs.declared.step.Turn.{Turn}
 use Rattle.coord_checkpoint.proofs.Ends.{blocks_few, end_of, fit_of}
 use Rattle.coord_checkpoint.proofs.Made.{due_by, quiet_at, runs_one, runs_two, tried_is, tried_whole}
 use Rattle.coord_checkpoint.proofs.Pairs.{FindsBy, IsLive, finds_as, live_frames, live_whole, pair}
-use Rattle.coord_checkpoint.proofs.Sides.{both_moments, keeps_by, keeps_sides, overtaken_aside, placed_end, ready_by, swapped}
+use Rattle.coord_checkpoint.proofs.Sides.{both_moments, keeps_by, keeps_sides, on_second_of, overtaken_aside, placed_count, placed_end, ready_by, swapped}
 
 -- ---- at each moment
 
@@ -76,13 +77,14 @@ module _ {D : Type 0} (seen : D → DiskView)
 
 -- nothing is tried
 pub untried : {D : Type 0} (seen : D → DiskView) (only_now : (d : D) (c : List ℕ) → (seen d).since (seen d).moment c → (seen d).image c)
-    (store : StoreParts D) (snapshots : List (List ℕ)) → Tries seen snapshots store store false
-untried seen only_now store snapshots = record {
+    (store : StoreParts D) (snapshots : List (List ℕ)) → (IsTimely store snapshots → ⊥) → Tries seen snapshots store store false
+untried seen only_now store snapshots not = record {
   made = λ is. absurd cc;
   kept = λ _ frames sealing pending was. (sealing, λ found e. inl e, was);
   turned = (λ is. absurd cc, λ _. refl);
   live = refl;
-  due = λ frames sealing pending was. inl (refl, refl);
+  quiet = λ is. absurd cc;
+  due = λ frames sealing pending was. inl (refl, refl, not);
   any_moment = λ frames sealing pending was. record {
     later_a = omega arith;
     later_b = omega arith;
@@ -101,15 +103,52 @@ module _ {D : Type 0} (live idle mid : Writer D) (turn next : Turn) where
   live_stays true e = ap (λ (t : Bool). if t then live else mid) e ∙ sym (ap (λ (t : Bool). if t then live else idle) e)
   live_stays false e = ap (λ (t : Bool). if t then mid else live) e ∙ sym (ap (λ (t : Bool). if t then idle else live) e)
 
-pub on_second_of : {D : Type 0} (b : Bool) (live idle : Writer D) (turn : Turn) → (placed b live idle turn).on_second ≡ turn.on_second
-on_second_of true live idle turn = refl
-on_second_of false live idle turn = refl
-
 pub sealing_of : {D : Type 0} (b : Bool) (live idle : Writer D) (turn : Turn) → (placed b live idle turn).sealing ≡ turn.sealing
 sealing_of true live idle turn = refl
 sealing_of false live idle turn = refl
 
+-- ---- whether one is to be tried
+
+generation_of : {D : Type 0} (b : Bool) (live idle : Writer D) (turn : Turn) → (placed b live idle turn).generation ≡ turn.generation
+generation_of true live idle turn = refl
+generation_of false live idle turn = refl
+
+module _ {D : Type 0} (live idle : Writer D) (turn : Turn) (snapshots : List (List ℕ)) where
+  abbrev At : StoreParts D
+  At = placed turn.on_second live idle turn
+
+  makes_by : IsDueAt turn live.count (length snapshots) → MayMake At (length snapshots)
+  makes_by due = record {
+    few = due.1;
+    next = (let next = due.2 in let same = generation_of turn.on_second live idle turn in omega (arith, next, same));
+    clears = λ is. (let some = due.3 (sym (on_second_of turn.on_second live idle turn) ∙ is) in let same = generation_of turn.on_second live idle turn in omega (arith, some, same));
+  }
+
+  timely_by : IsDueAt turn live.count (length snapshots) → live.end + 33554437 ≤ 2 ^ 62 → IsTimely At snapshots
+  timely_by due room = (
+    due_by live idle turn snapshots due.0,
+    makes_by due,
+    (let end = placed_end turn.on_second live idle turn refl in omega (arith, end, room)),
+  )
+
+  due_at : IsTimely At snapshots → IsDueAt turn live.count (length snapshots)
+  due_at t =
+      let makes = t.1 in (
+        (let due = t.0 in let same = placed_count turn.on_second live idle turn refl in omega (arith, due, same)),
+        makes.few,
+        (let next = makes.next in let same = generation_of turn.on_second live idle turn in omega (arith, next, same)),
+        λ is. (let some = makes.clears (on_second_of turn.on_second live idle turn ∙ is) in let same = generation_of turn.on_second live idle turn in omega (arith, some, same)),
+      )
+
+  -- the largest frame has no room
+  pub no_room : (live.end + 33554437 ≤ 2 ^ 62 → ⊥) → IsTimely At snapshots → ⊥
+  no_room not t = not (let end = placed_end turn.on_second live idle turn refl in let room = t.2 in omega (arith, end, room))
+
 -- ---- a write with no checkpoint
+
+other_is : {D : Type 0} (live idle mid : Writer D) (turn next : Turn) (b : Bool) → turn.on_second ≡ b → other_side (placed b live idle turn) (placed b live mid next) ≡ mid
+other_is live idle mid turn next true e = ap (λ (t : Bool). if t then mid else live) e
+other_is live idle mid turn next false e = ap (λ (t : Bool). if t then live else mid) e
 
 idle_is : {D : Type 0} (live idle : Writer D) (turn : Turn) (b : Bool) → turn.on_second ≡ b → idle_side (placed b live idle turn) ≡ idle
 idle_is live idle turn true e = ap (λ (t : Bool). if t then idle else live) e
@@ -135,7 +174,7 @@ module _ {D : Type 0} (seen : D → DiskView)
     (live idle mid : Writer D) (turn next : Turn) (snapshots : List (List ℕ))
     (preparing : (sealing : Option (List (List ℕ))) → IsReady seen idle turn sealing → LeavesOnly seen idle.disk mid.disk (HasFrames (IsPreparing turn sealing snapshots)))
     (runs : RunsOn seen idle.disk mid.disk) (has_room : live.end + 33554437 ≤ 2 ^ 62) (turned : IsNextTurn turn next)
-    (due : 4096 + 2 * length snapshots ≤ live.count)
+    (due : IsDueAt turn live.count (length snapshots)) (calm : IsQuiet seen idle.disk mid.disk)
     (has : (sealing : Option (List (List ℕ))) → IsReady seen idle turn sealing → HasCheckpoint seen mid (turn.generation + 1) snapshots) where
   module _ (frames : List (List ℕ)) (sealing : Option (List (List ℕ))) (pending : Option (List ℕ))
       (was : Keeps seen (placed turn.on_second live idle turn) frames sealing pending) where
@@ -180,9 +219,6 @@ module _ {D : Type 0} (seen : D → DiskView)
           length-append (head_frame (turn.generation + 1) ∷ snapshots) (seal_frame ∷ []),
         )
 
-  before : (placed turn.on_second live idle turn).end + 33554437 ≤ 2 ^ 62
-  before = let end = placed_end turn.on_second live idle turn refl in omega (arith, end, has_room)
-
   pub made_alone : length snapshots < 2 ^ 35 → Tries seen snapshots (placed turn.on_second live idle turn) (placed turn.on_second live mid next) true
   made_alone few = record {
     made = λ _ frames sealing pending was. (
@@ -199,7 +235,10 @@ module _ {D : Type 0} (seen : D → DiskView)
       λ is. absurd cc,
     );
     live = live_stays live idle mid turn next turn.on_second refl;
-    due = λ frames sealing pending was. inr (due_by live idle turn snapshots due, before, room frames sealing pending was few);
+    quiet = λ _. subst (λ (w : Writer D). IsQuiet seen w.disk (other_side (placed turn.on_second live idle turn) (placed turn.on_second live mid next)).disk)
+        (sym (idle_is live idle turn turn.on_second refl))
+        (subst (λ (w : Writer D). IsQuiet seen idle.disk w.disk) (sym (other_is live idle mid turn next turn.on_second refl)) calm);
+    due = λ frames sealing pending was. inr (timely_by live idle turn snapshots due has_room, room frames sealing pending was few, λ is. absurd cc);
     any_moment = λ frames sealing pending was. tried_moments seen only_now live idle mid turn next snapshots preparing frames sealing pending was;
     runs = (
       runs_one seen live idle live mid turn next turn.on_second (runs_none seen live.disk) runs,
@@ -240,7 +279,7 @@ module _ {D : Type 0} (seen : D → DiskView)
   is_end : (placed turn.on_second live mid next).end ≡ live.end
   is_end = placed_end turn.on_second live mid next same.on_second
 
-  module _ (undone : ((mid ≡ idle) × (next ≡ turn)) ⊎ ((4096 + 2 * length snapshots ≤ live.count) × (live.end + 33554437 ≤ 2 ^ 62))) where
+  module _ (tried : HasTried seen idle mid turn next live.count (length snapshots)) (has_room : live.end + 33554437 ≤ 2 ^ 62) where
     abbrev Old : StoreParts D
     Old = placed turn.on_second live idle turn
 
@@ -250,14 +289,13 @@ module _ {D : Type 0} (seen : D → DiskView)
     as_was : mid ≡ idle → next ≡ turn → New ≡ Old
     as_was e f = ap (λ (w : Writer D). placed turn.on_second live w next) e ∙ ap (λ (t : Turn). placed turn.on_second live idle t) f
 
-    was_end : Old.end ≡ live.end
-    was_end = placed_end turn.on_second live idle turn refl
+    ending : New.end + 33554437 ≤ 2 ^ 62
+    ending = omega (arith, has_room, is_end)
 
-    ended : live.end + 33554437 ≤ 2 ^ 62 → Old.end + 33554437 ≤ 2 ^ 62
-    ended has = omega (arith, has, was_end)
-
-    ending : live.end + 33554437 ≤ 2 ^ 62 → New.end + 33554437 ≤ 2 ^ 62
-    ending has = omega (arith, has, is_end)
+    stopped : HasStopped seen idle mid (turn.generation + 1) → HasStopped seen (idle_side Old) (other_side Old New) (Old.generation + 1)
+    stopped h = subst (λ (n : ℕ). HasStopped seen (idle_side Old) (other_side Old New) (n + 1)) (sym (generation_of turn.on_second live idle turn))
+        (subst (λ (w : Writer D). HasStopped seen w (other_side Old New) (turn.generation + 1)) (sym (idle_is live idle turn turn.on_second refl))
+        (subst (λ (w : Writer D). HasStopped seen idle w (turn.generation + 1)) (sym (other_is live idle mid turn next turn.on_second refl)) h))
 
     pub kept_alone : Tries seen snapshots Old New false
     kept_alone = record {
@@ -269,7 +307,14 @@ module _ {D : Type 0} (seen : D → DiskView)
       );
       turned = (λ is. absurd cc, λ _. on_second_of turn.on_second live mid next ∙ (same.on_second ∙ sym (on_second_of turn.on_second live idle turn)));
       live = live_stays live idle mid turn next turn.on_second refl;
-      due = λ frames sealing pending was. ⊎_elim (λ is. inl (as_was is.0 is.1, refl)) (λ some. inr (due_by live idle turn snapshots some.0, ended some.1, ending some.1)) undone;
+      quiet = λ is. absurd cc;
+      due = λ frames sealing pending was. ⊎_elim
+          (λ is. inl (as_was is.0 is.1, refl, λ timely. is.2 (due_at live idle turn snapshots timely)))
+          (λ some. inr (
+            timely_by live idle turn snapshots some.0 has_room,
+            ending,
+            λ _. stopped (some.1 sealing (ready_by seen live idle turn frames sealing pending was)),
+          )) tried;
       any_moment = λ frames sealing pending was. tried_moments seen only_now live idle mid turn next snapshots preparing frames sealing pending was;
       runs = (
         runs_one seen live idle live mid turn next turn.on_second (runs_none seen live.disk) runs,
@@ -284,17 +329,13 @@ module _ {D : Type 0} (seen : D → DiskView)
     (live idle mid : Writer D) (turn next : Turn) (snapshots : List (List ℕ))
     (preparing : (sealing : Option (List (List ℕ))) → IsReady seen idle turn sealing → LeavesOnly seen idle.disk mid.disk (HasFrames (IsPreparing turn sealing snapshots)))
     (runs : RunsOn seen idle.disk mid.disk) (room : live.end + 33554437 ≤ 2 ^ 62) where
-  is_due : ((true ≡ false) × (mid ≡ idle) × (next ≡ turn)) ⊎ (4096 + 2 * length snapshots ≤ live.count) → 4096 + 2 * length snapshots ≤ live.count
-  is_due (inl is) = let clash = is.0 in absurd cc
-  is_due (inr due) = due
-
   pub tried_alone : (b : Bool)
       → (b ≡ true → IsNextTurn turn next × ((sealing : Option (List (List ℕ))) → IsReady seen idle turn sealing → HasCheckpoint seen mid (turn.generation + 1) snapshots))
       → (b ≡ false → IsSameTurn turn next × ((sealing : Option (List (List ℕ))) → IsReady seen idle turn sealing → StaysReady seen mid turn next sealing snapshots ⊥))
-      → ((b ≡ false) × (mid ≡ idle) × (next ≡ turn)) ⊎ (4096 + 2 * length snapshots ≤ live.count) → (b ≡ true → length snapshots < 2 ^ 35)
+      → (b ≡ true → IsDueAt turn live.count (length snapshots)) → (b ≡ true → IsQuiet seen idle.disk mid.disk)
+      → (b ≡ false → HasTried seen idle mid turn next live.count (length snapshots))
       → Tries seen snapshots (placed turn.on_second live idle turn) (placed turn.on_second live mid next) b
-  tried_alone true made kept due few =
-      made_alone seen only_now live idle mid turn next snapshots preparing runs room (made refl).0 (is_due due) (made refl).1 (few refl)
-  tried_alone false made kept due few =
-      kept_alone seen only_now live idle mid turn next snapshots ⊥ preparing runs (kept refl).0 (kept refl).1
-      (⊎_elim (λ is. inl (is.1, is.2)) (λ d. inr (d, room)) due)
+  tried_alone true made kept due calm tried =
+      made_alone seen only_now live idle mid turn next snapshots preparing runs room (made refl).0 (due refl) (calm refl) (made refl).1 (due refl).1
+  tried_alone false made kept due calm tried =
+      kept_alone seen only_now live idle mid turn next snapshots ⊥ preparing runs (kept refl).0 (kept refl).1 (tried refl) room

@@ -20,9 +20,9 @@ use Rattle.coord_checkpoint.specs.Steps.{IsPreparing, IsReady, IsSameTurn, IsTri
 use Rattle.coord_checkpoint.specs.Writes.{Adds, IsQuietBut, MayCheckpoint, Stays, Writes}
 use Rattle.coord_checkpoint.specs.declared.step.Turn.{Turn}
 use Rattle.coord_checkpoint.proofs.Ends.{has_room, stands_few}
-use Rattle.coord_checkpoint.proofs.Made.{Appended, append_failed, calls_quiet, due_by, quiet_at, quiet_both, quiet_live, refuses_idle, refuses_live, runs_one, runs_two, stays_or, tried_is, tried_whole, written_frames}
+use Rattle.coord_checkpoint.proofs.Made.{Appended, append_failed, due_by, quiet_both, quiet_live, refuses_idle, refuses_live, runs_one, runs_two, stays_or, tried_is, tried_whole, written_frames}
 use Rattle.coord_checkpoint.proofs.Pairs.{FindsBy, IsLive, finds_as, live_frames, live_whole, pair}
-use Rattle.coord_checkpoint.proofs.Sides.{both_moments, keeps_by, keeps_sides, placed_end, ready_by}
+use Rattle.coord_checkpoint.proofs.Sides.{both_moments, keeps_by, keeps_sides, on_second_of, placed_end, ready_by}
 
 module _ {D : Type 0} (seen : D → DiskView)
     (only_now : (d : D) (c : List ℕ) → (seen d).since (seen d).moment c → (seen d).image c)
@@ -187,7 +187,7 @@ module _ {D : Type 0} (seen : D → DiskView)
       };
       device = λ is. refuses_idle seen live idle live last turn next turn.on_second refl failed (inr sealing_is);
       quiet = tt;
-      live = tt;
+      turned = on_second_of turn.on_second live last next ∙ (same.on_second ∙ sym (on_second_of turn.on_second live idle turn));
       any_moment = λ frames sealing pending was.
           both_moments seen live idle live last turn next (HasFrames (Lives frames sealing pending was)) (HasFrames (Idles frames sealing pending was))
           (IsLeftWithin frames sealing pending snapshots frame other) turn.on_second (lives_now frames sealing pending was) (idle_moments frames sealing pending was)
@@ -218,8 +218,8 @@ module _ {D : Type 0} (seen : D → DiskView)
         elim undone [
           | inl is ↦ quiet_both seen live idle new last turn next turn.on_second (MayCheckpoint Was snapshots) silent
               (subst (λ (w : Writer D). IsQuiet seen idle.disk w.disk) (sym is.0) (λ told. refl))
-          | inr some ↦ quiet_live seen live idle new last turn next turn.on_second (MayCheckpoint Was snapshots)
-              (⊎_elim (λ due. inl (due_by live idle turn snapshots due)) (λ is. inr (flag turn.on_second is)) some.0) silent
+          | inr some ↦ quiet_live seen live idle new last turn next turn.on_second refl (MayCheckpoint Was snapshots)
+              (⊎_elim (λ due. inl (due_by live idle turn snapshots due)) (λ is. inr (flag turn.on_second is)) some.0) same.on_second silent
         ]
       where
         flag : (b : Bool) → turn.sealing ≡ true → (placed b live idle turn).sealing ≡ true
@@ -246,7 +246,7 @@ module _ {D : Type 0} (seen : D → DiskView)
       };
       device = λ is. refuses_live seen live idle new last turn next turn.on_second refl (append_failed seen frame len calls live new r a is);
       quiet = quiet r a;
-      live = quiet_at seen live idle new last turn next r (calls_quiet seen calls live.disk new.disk r a.disk) turn.on_second refl;
+      turned = on_second_of turn.on_second new last next ∙ (same.on_second ∙ sym (on_second_of turn.on_second live idle turn));
       any_moment = λ frames sealing pending was.
           both_moments seen live idle new last turn next (HasFrames (Lives frames sealing pending was)) (HasFrames (Idles frames sealing pending was))
           (IsLeftWithin frames sealing pending snapshots frame other) turn.on_second (lives_then frames sealing pending was new r a) (idle_moments frames sealing pending was)

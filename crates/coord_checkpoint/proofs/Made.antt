@@ -24,7 +24,7 @@ use Rattle.coord_checkpoint.specs.Writes.{Adds, IsQuietBut, MayCheckpoint, Refus
 use Rattle.coord_checkpoint.specs.declared.step.Turn.{Turn}
 use Rattle.coord_checkpoint.proofs.Ends.{blocks_few, end_of, fit_of, has_room, stands_few}
 use Rattle.coord_checkpoint.proofs.Pairs.{FindsBy, IsLive, finds_as, live_frames, live_whole, pair}
-use Rattle.coord_checkpoint.proofs.Sides.{both_moments, keeps_by, keeps_sides, overtaken_aside, placed_count, placed_end, ready_by, swapped}
+use Rattle.coord_checkpoint.proofs.Sides.{both_moments, keeps_by, keeps_sides, on_second_of, overtaken_aside, placed_count, placed_end, ready_by, swapped}
 
 -- ---- the checkpoint
 
@@ -84,9 +84,12 @@ module _ {D : Type 0} (seen : D → DiskView) (live idle live_new idle_new : Wri
   quiet_both true checkpoint p q = inl (q, p)
   quiet_both false checkpoint p q = inl (p, q)
 
-  pub quiet_live : (b : Bool) (checkpoint : Type 0) → checkpoint → IsQuiet seen live.disk live_new.disk → IsQuietBut seen checkpoint (Old b) (New b)
-  quiet_live true checkpoint may p = inr (may, inr p)
-  quiet_live false checkpoint may p = inr (may, inl p)
+  pub quiet_live : (b : Bool) → turn.on_second ≡ b → (checkpoint : Type 0) → checkpoint → next.on_second ≡ turn.on_second
+      → IsQuiet seen live.disk live_new.disk → IsQuietBut seen checkpoint (Old b) (New b)
+  quiet_live true e checkpoint may same p =
+      inr (may, same, subst (λ (t : Bool). IsQuiet seen (if t then live.disk else idle.disk) (if t then live_new.disk else idle_new.disk)) (sym e) p)
+  quiet_live false e checkpoint may same p =
+      inr (may, same, subst (λ (t : Bool). IsQuiet seen (if t then idle.disk else live.disk) (if t then idle_new.disk else live_new.disk)) (sym e) p)
 
   pub runs_one : (b : Bool) → RunsOn seen live.disk live_new.disk → RunsOn seen idle.disk idle_new.disk → RunsOn seen (Old b).first.disk (New b).first.disk
   runs_one true p q = q
@@ -293,8 +296,8 @@ module _ {D : Type 0} (seen : D → DiskView)
       let over = ((a.exact end).0 is).1 in omega (arith, over, fills frames sealing pending was few fits)
 
   pub made_writes : (r : Result ℕ StoreFault) → Appended seen frame len calls mid new r → length snapshots < 2 ^ 35 → length frame ≤ 33554432
-      → live.end + whole_len ≤ 2 ^ 62 → Writes seen other frame snapshots whole_len Was Is true r
-  made_writes r a few fits room = record {
+      → live.end + whole_len ≤ 2 ^ 62 → IsQuiet seen idle.disk mid.disk → Writes seen other frame snapshots whole_len Was Is true r
+  made_writes r a few fits room calm = record {
     kept = by_ok r a;
     failed = by_err r a;
     full = record {
@@ -307,8 +310,8 @@ module _ {D : Type 0} (seen : D → DiskView)
     device = λ is. refuses_idle seen live idle live new turn next turn.on_second refl
         (failed_later seen idle.disk mid.disk new.disk runs (append_failed seen frame len calls mid new r a is))
         (inl (not_itself turn.on_second next.on_second turned.on_second));
-    quiet = quiet r;
-    live = quiet_at seen live idle live new turn next r (untouched r) turn.on_second refl;
+    quiet = quiet r a;
+    turned = on_second_of turn.on_second live new next ∙ (turned.on_second ∙ sym (ap not (on_second_of turn.on_second live idle turn)));
     any_moment = λ frames sealing pending was.
         let two = moments frames sealing pending was r a in
         both_moments seen live idle live new turn next (HasFrames (IsLive frames pending)) (HasFrames (Idles frames sealing pending was))
@@ -328,11 +331,7 @@ module _ {D : Type 0} (seen : D → DiskView)
       by_err (Ok n) a = tt
       by_err (Err e) a = λ frames sealing pending was. stays frames sealing pending was (Err e) a
 
-      quiet : (r : Result ℕ StoreFault) → OnOk r (IsQuietBut seen (MayCheckpoint Was snapshots) Was Is)
-      quiet (Err e) = tt
-      quiet (Ok n) = quiet_live seen live idle live new turn next turn.on_second (MayCheckpoint Was snapshots)
-          (inl (due_by live idle turn snapshots due)) (λ told. refl)
-
-      untouched : (r : Result ℕ StoreFault) → OnOk r (IsQuiet seen live.disk live.disk)
-      untouched (Err e) = tt
-      untouched (Ok n) = λ told. refl
+      quiet : (r : Result ℕ StoreFault) → Appended seen frame len calls mid new r → OnOk r (IsQuietBut seen (MayCheckpoint Was snapshots) Was Is)
+      quiet (Err e) a = tt
+      quiet (Ok n) a = quiet_both seen live idle live new turn next turn.on_second (MayCheckpoint Was snapshots) (λ told. refl)
+          (λ told. (a.disk.done (runs.told ∙ told)).same_faults ∙ calm told)

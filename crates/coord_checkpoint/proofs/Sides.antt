@@ -25,6 +25,10 @@ pub placed_end : {D : Type 0} (b : Bool) (live idle : Writer D) (turn : Turn) �
 placed_end true live idle turn e = ap (λ (t : Bool). if t then live.end else idle.end) e
 placed_end false live idle turn e = ap (λ (t : Bool). if t then idle.end else live.end) e
 
+pub on_second_of : {D : Type 0} (b : Bool) (live idle : Writer D) (turn : Turn) → (placed b live idle turn).on_second ≡ turn.on_second
+on_second_of true live idle turn = refl
+on_second_of false live idle turn = refl
+
 pub placed_count : {D : Type 0} (b : Bool) (live idle : Writer D) (turn : Turn) → turn.on_second ≡ b → (live_side (placed b live idle turn)).count ≡ live.count
 placed_count true live idle turn e = ap (λ (t : Bool). (if t then live else idle).count) e
 placed_count false live idle turn e = ap (λ (t : Bool). (if t then idle else live).count) e

@@ -1,12 +1,12 @@
 -- What the steps of a write do to the disk that isn't live. This project's own; private clauses cite it.
 -- For example the step before a write to a store whose seal may still land closes the first gate of the disk that isn't live.
-use Rattle.std.specs.Prelude.{◌≡◌, ◌⊎◌, ◌+◌, ◌<◌, ◌^◌, ℕ, Bool, true, false, not, List, [], length, Some, None, if◌then◌else◌}
+use Rattle.std.specs.Prelude.{◌≡◌, ◌⊎◌, ◌+◌, ◌*◌, ◌<◌, ◌≤◌, ◌^◌, ℕ, Bool, true, false, not, List, [], length, Some, None, if◌then◌else◌}
 use Rattle.std.specs.declared.option.Option.{Option}
 use Rattle.edge_io.specs.Views.{DiskView}
 use Rattle.gate_journal.specs.Journals.{IsAtRest}
 use Rattle.gate_journal.specs.declared.writer.Writer.{Writer}
 use Rattle.checkpoint_journal.specs.Generations.{IsBeaten, IsWhole, live_of, marks_of, second_is_live}
-use Rattle.checkpoint_journal.specs.Making.{IsMade}
+use Rattle.checkpoint_journal.specs.Making.{HasStopped, IsMade}
 use Rattle.checkpoint_journal.specs.Spares.{IsAside, IsIdle}
 use Rattle.coord_checkpoint.specs.Stores.{StoreParts, arranged}
 use Rattle.coord_checkpoint.specs.declared.step.Turn.{Turn}
@@ -15,12 +15,22 @@ use Rattle.coord_checkpoint.specs.declared.step.Turn.{Turn}
 abbrev pub placed : {D : Type 0} → Bool → Writer D → Writer D → Turn → StoreParts D
 placed on_second live idle turn = if on_second then arranged idle live turn else arranged live idle turn
 
+-- one of so many keys is due behind so many frames, and can be made
+abbrev pub IsDueAt : Turn → (frames keys : ℕ) → Type 0
+IsDueAt turn frames keys =
+    (4096 + 2 * keys ≤ frames) × (keys < 2 ^ 35) × (turn.generation < 2 ^ 62) × (turn.on_second ≡ true → 0 < turn.generation)
+
 -- the disk that isn't live, with the checkpoint whose seal may still land there, if there is one
 pub record IsReady {D : Type 0} (seen : D → DiskView) (idle : Writer D) (turn : Turn) (sealing : Option (List (List ℕ))) : Type 0 where
   pub aside : IsAside seen idle turn.on_second turn.generation sealing
   pub unsealed : turn.sealing ≡ false → sealing ≡ None
   pub clears : turn.sealing ≡ true → IsBeaten turn.on_second turn.generation []
   pub next : (found : List (List ℕ)) → sealing ≡ Some found → IsWhole (turn.generation + 1) found
+
+-- None was due, and nothing is done; or one was, and the disk that isn't live tells that it was begun.
+abbrev pub HasTried : {D : Type 0} → (D → DiskView) → (old new : Writer D) → (was turn : Turn) → (frames keys : ℕ) → Type 0
+HasTried seen old new was turn frames keys = ((new ≡ old) × (turn ≡ was) × (IsDueAt was frames keys → ⊥))
+    ⊎ (IsDueAt was frames keys × ((sealing : Option (List (List ℕ))) → IsReady seen old was sealing → HasStopped seen old new (was.generation + 1)))
 
 -- the checkpoint of this generation, of so few keys
 pub record IsTried (generation : ℕ) (snapshots frames : List (List ℕ)) : Type 0 where

@@ -11,8 +11,10 @@ use Rattle.gate_journal.specs.Journals.{IsQuiet}
 use Rattle.share_model.specs.declared.fault.StoreFault.{StoreFault}
 use Rattle.share_model.specs.declared.fault.StoreFault.TheVariants.{Device, Full}
 use Rattle.coord_checkpoint.specs.Disks.{HasFailed}
-use Rattle.coord_checkpoint.specs.Stores.{Finds, IsBase, IsDue, IsLeft, IsLeftWithin, Keeps, MaySeal, StoreParts, idle_side, live_side}
+use Rattle.coord_checkpoint.specs.Stores.{Finds, IsBase, IsDue, IsLeft, IsLeftWithin, Keeps, MayMake, MaySeal, StoreParts, idle_side, live_side}
 use Rattle.checkpoint_journal.specs.Checkpoints.{IsCheckpoint}
+use Rattle.checkpoint_journal.specs.Making.{HasStopped}
+use Rattle.gate_journal.specs.declared.writer.Writer.{Writer}
 
 -- A write at Ok: its frame stands behind the frames, or the other one behind a checkpoint of them; no seal may land and nothing is pending.
 pub record Adds {D : Type 0} (seen : D → DiskView) (new : StoreParts D) (frames snapshots : List (List ℕ)) (frame fresh : List ℕ)
@@ -55,10 +57,11 @@ RefusesDevice seen old new = HasFailed seen (side old.on_second old) (side old.o
 abbrev pub MayCheckpoint : {D : Type 0} → StoreParts D → List (List ℕ) → Type 0
 MayCheckpoint store snapshots = IsDue store snapshots ⊎ (store.sealing ≡ true)
 
--- no call of the two disks failed; or calls for a checkpoint were made, and those of at most one disk failed
+-- No call of the two disks failed; or calls for a checkpoint were made, which wasn't completed, and none failed of the disk that is live. So
+-- those that failed are the checkpoint's own: where it was completed, and of the write itself, none did.
 abbrev pub IsQuietBut : {D : Type 0} → (D → DiskView) → Type 0 → StoreParts D → StoreParts D → Type 0
 IsQuietBut seen checkpoint old new = (IsQuiet seen old.first.disk new.first.disk × IsQuiet seen old.second.disk new.second.disk)
-    ⊎ (checkpoint × (IsQuiet seen old.first.disk new.first.disk ⊎ IsQuiet seen old.second.disk new.second.disk))
+    ⊎ (checkpoint × (new.on_second ≡ old.on_second) × IsQuiet seen (side old.on_second old) (side old.on_second new))
 
 -- A write to a store of keys with these snapshots: of the one frame, in a buffer of so many bytes, or behind a completed checkpoint of the
 -- other one.
@@ -71,8 +74,8 @@ pub record Writes {D : Type 0} (seen : D → DiskView) (frame fresh : List ℕ) 
   pub full : Fills seen old new len checkpointed result
   pub device : result ≡ Err Device → RefusesDevice seen old new
   pub quiet : OnOk result (IsQuietBut seen (MayCheckpoint old snapshots) old new)
-  -- where it is done, no call failed of the disk that was live at entry
-  pub live : OnOk result (IsQuiet seen (side old.on_second old) (side old.on_second new))
+  -- the other disk is live exactly where a checkpoint was completed
+  pub turned : new.on_second ≡ (if checkpointed then not old.on_second else old.on_second)
   -- at each moment since it began a crash of each disk leaves what it kept, a checkpoint, or a frame behind the frames or a checkpoint
   pub any_moment : (frames : List (List ℕ)) (sealing : Option (List (List ℕ))) (pending : Option (List ℕ)) →
       Keeps seen old frames sealing pending → LeavesPairs seen old.first.disk new.first.disk old.second.disk new.second.disk
@@ -93,14 +96,24 @@ pub record StaysOn {D T E : Type 0} (seen : D → DiskView) (old new : StorePart
 abbrev pub IsLeftTrying : List (List ℕ) → Option (List (List ℕ)) → Option (List ℕ) → List (List ℕ) → List (List ℕ) → Type 0
 IsLeftTrying frames sealing pending snapshots found = IsLeft frames sealing pending found ⊎ IsCheckpoint snapshots found
 
--- nothing was tried; or a checkpoint was due, and the largest frame has room behind the journal, before and afterwards
-abbrev pub IsUntried : {D : Type 0} → List (List ℕ) → StoreParts D → StoreParts D → Bool → Type 0
-IsUntried snapshots old new made = ((new ≡ old) × (made ≡ false))
-    ⊎ (IsDue old snapshots × (old.end + 33554437 ≤ 2 ^ 62) × (new.end + 33554437 ≤ 2 ^ 62))
+-- A checkpoint of these snapshots is to be tried: it is due, it can be made, and the largest frame has room behind the live journal.
+abbrev pub IsTimely : {D : Type 0} → StoreParts D → List (List ℕ) → Type 0
+IsTimely store snapshots = IsDue store snapshots × MayMake store (length snapshots) × (store.end + 33554437 ≤ 2 ^ 62)
 
--- A checkpoint of these snapshots is tried where one is due and the largest frame has room behind the live journal. Once it is made nothing is
--- pending; where it fails the store keeps its frames, and what was pending. The disk that was live isn't touched. For example none is
--- tried for a journal of 4095 frames.
+-- behind a call, the journal of the disk that wasn't live before it
+abbrev pub other_side : {D : Type 0} → (old new : StoreParts D) → Writer D
+other_side old new = if old.on_second then new.first else new.second
+
+-- None was to be tried, and nothing is changed; or one was, and then it was made, or the disk that isn't live tells that it was begun. The
+-- largest frame has room behind the journal afterwards too.
+abbrev pub TriesTimely : {D : Type 0} → (D → DiskView) → List (List ℕ) → StoreParts D → StoreParts D → Bool → Type 0
+TriesTimely seen snapshots old new made = ((new ≡ old) × (made ≡ false) × (IsTimely old snapshots → ⊥))
+    ⊎ (IsTimely old snapshots × (new.end + 33554437 ≤ 2 ^ 62)
+    × (made ≡ false → HasStopped seen (idle_side old) (other_side old new) (old.generation + 1)))
+
+-- A checkpoint of these snapshots is tried exactly where one is due and can be made, and the largest frame has room behind the live journal.
+-- Once it is made nothing is pending, and no call failed; where it fails the store keeps its frames, and what was pending. The disk that was
+-- live isn't touched. For example none is tried for a journal of 4095 frames, and one is for 4098 frames of one key.
 pub record Tries {D : Type 0} (seen : D → DiskView) (snapshots : List (List ℕ)) (old new : StoreParts D) (is_made : Bool) : Type 0 where
   pub made : is_made ≡ true → (frames : List (List ℕ)) (sealing : Option (List (List ℕ))) (pending : Option (List ℕ)) → Keeps seen old frames sealing pending →
       (base : List (List ℕ)) × IsCheckpoint snapshots base × Keeps seen new base None None
@@ -108,8 +121,9 @@ pub record Tries {D : Type 0} (seen : D → DiskView) (snapshots : List (List �
       (seals : Option (List (List ℕ))) × MaySeal sealing snapshots seals × Keeps seen new frames seals pending
   pub turned : (is_made ≡ true → (new.on_second ≡ not old.on_second) × (new.sealing ≡ false)) × (is_made ≡ false → new.on_second ≡ old.on_second)
   pub live : (if old.on_second then new.second else new.first) ≡ live_side old
+  pub quiet : is_made ≡ true → IsQuiet seen (idle_side old).disk (other_side old new).disk
   pub due : (frames : List (List ℕ)) (sealing : Option (List (List ℕ))) (pending : Option (List ℕ)) → Keeps seen old frames sealing pending →
-      IsUntried snapshots old new is_made
+      TriesTimely seen snapshots old new is_made
   pub any_moment : (frames : List (List ℕ)) (sealing : Option (List (List ℕ))) (pending : Option (List ℕ)) → Keeps seen old frames sealing pending →
       LeavesPairs seen old.first.disk new.first.disk old.second.disk new.second.disk (Finds (IsLeftTrying frames sealing pending snapshots))
   pub runs : RunsOn seen old.first.disk new.first.disk × RunsOn seen old.second.disk new.second.disk

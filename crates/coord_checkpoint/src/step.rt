@@ -4,12 +4,13 @@ ghost use Rattle.std.specs.declared.option.Option.{Option};
 ghost use Rattle.edge_io.specs.Armed.{RunsOn};
 ghost use Rattle.edge_io.specs.Moments.{LeavesOnly};
 ghost use Rattle.gate_journal.specs.Frames.{IsFrame, frame_in};
+ghost use Rattle.gate_journal.specs.Journals.{IsQuiet};
 ghost use Rattle.gate_journal.specs.Spares.{HasFrames};
 ghost use Rattle.checkpoint_journal.specs.Generations.{IsBeaten, IsPlain, live_of, mark_of};
 ghost use Rattle.checkpoint_journal.specs.Spares.{IsIdle};
 ghost use Rattle.checkpoint_journal.specs.Standings.{StandsSo};
 ghost use Rattle.coord_checkpoint.specs.Disks.{HasFailed};
-ghost use Rattle.coord_checkpoint.specs.Steps.{HasCheckpoint, IsNextTurn, IsPreparing, IsReady, IsSameTurn, IsTurn, StaysReady, placed};
+ghost use Rattle.coord_checkpoint.specs.Steps.{HasCheckpoint, HasTried, IsDueAt, IsNextTurn, IsPreparing, IsReady, IsSameTurn, IsTurn, StaysReady, placed};
 ghost use Rattle.coord_checkpoint.specs.Writes.{StaysOn, Tries, Writes};
 
 use checkpoint_journal::{CheckpointFault, Snapshots, Standing, close_idle, write_checkpoint};
@@ -83,6 +84,14 @@ pub(crate) fn may_make(turn: Turn) -> bool
     turn.generation < MAX_GENERATION && (!turn.on_second || turn.generation > 0)
 }
 
+// Whether a checkpoint of so many keys is due behind so many frames, and can be made.
+fn is_timely(turn: Turn, frames: u64, keys: u64) -> bool
+    ensures exact { (result ≡ true) ↔ IsDueAt turn frames keys }
+    ensures clears { result ≡ true → IsBeaten turn.on_second turn.generation [] }
+{
+    is_due(frames, keys) && may_make(turn)
+}
+
 // Tries a checkpoint where one is due, of a live journal with so many frames. True where it was made.
 fn try_checkpoint<D: Disk, S: Snapshots>(
     alloc: Global,
@@ -99,9 +108,12 @@ fn try_checkpoint<D: Disk, S: Snapshots>(
         LeavesOnly D.seen idle.old.disk idle.new.disk (HasFrames (IsPreparing turn.old sealing (S.rest snapshots.old))) }
     ensures due { ((result ≡ false) × (idle.new ≡ idle.old) × (turn.new ≡ turn.old)) ⊎ (4096 + 2 * length (S.rest snapshots.old) ≤ frames) }
     ensures few { result ≡ true → length (S.rest snapshots.old) < 2 ^ 35 }
+    ensures may { result ≡ true → IsDueAt turn.old frames (length (S.rest snapshots.old)) }
+    ensures quiet { result ≡ true → IsQuiet D.seen idle.old.disk idle.new.disk }
+    ensures tried { result ≡ false → HasTried D.seen idle.old idle.new turn.old turn.new frames (length (S.rest snapshots.old)) }
     ensures runs { RunsOn D.seen idle.old.disk idle.new.disk }
 {
-    if !is_due(frames, snapshots.count()) || !may_make(*turn) {
+    if !is_timely(*turn, frames, snapshots.count()) {
         return false;
     }
     let next = turn.generation + 1;
@@ -159,6 +171,7 @@ fn prepare<D: Disk, S: Snapshots>(
         HasCheckpoint D.seen idle.new (turn.old.generation + 1) (S.rest snapshots.old)) }
     ensures due { result ≡ Ok true → 4096 + 2 * length (S.rest snapshots.old) ≤ frames }
     ensures few { result ≡ Ok true → (length (S.rest snapshots.old) < 2 ^ 35) × (writes ≡ true) }
+    ensures quiet { result ≡ Ok true → IsQuiet D.seen idle.old.disk idle.new.disk }
     ensures beside { result ≢ Ok true → IsSameTurn turn.old turn.new × ((sealing : Option (List (List ℕ))) → IsReady D.seen idle.old turn.old sealing →
         StaysReady D.seen idle.new turn.old turn.new sealing (S.rest snapshots.old) (IsOk result × (writes ≡ true))) }
     ensures failed { OnErr result (HasFailed D.seen idle.old.disk idle.new.disk × (turn.new.sealing ≡ true) × (writes ≡ true)) }

@@ -25,7 +25,7 @@ returns-in-Ok-true g c =
       same = λ end is. (c.append.ensures.full.same end is).0;
       moments = c.append.ensures.any_moment;
       disk = c.append.ensures.disk;
-    }) few.0 c.requires.fresh.0.1 (omega (arith, room, c.last_gate.ensures.end))
+    }) few.0 c.requires.fresh.0.1 (omega (arith, room, c.last_gate.ensures.end)) (c.prepare.ensures.quiet e)
 
 pub returns-in-Ok-false : goal.returns-in-Ok-false
 returns-in-Ok-false g c =
