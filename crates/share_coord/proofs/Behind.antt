@@ -14,14 +14,15 @@ use Rattle.share_model.specs.declared.fault.StoreFault.TheVariants.{Device, Full
 use Rattle.share_model.specs.declared.run.Run.{Run}
 use Rattle.coord_checkpoint.specs.Disks.{HasFailed}
 use Rattle.checkpoint_journal.specs.Checkpoints.{IsCheckpoint}
-use Rattle.coord_checkpoint.specs.Stores.{IsDue, Keeps, MaySeal, StoreParts as JournalParts, live_side}
-use Rattle.coord_checkpoint.specs.Writes.{IsQuietBut, MayCheckpoint, StaysOn, Tries, side}
+use Rattle.edge_io.specs.Armed.{RunsOn}
+use Rattle.coord_checkpoint.specs.Stores.{Keeps, MaySeal, StoreParts as JournalParts, idle_side, live_side}
+use Rattle.coord_checkpoint.specs.Writes.{IsQuietBut, IsTimely, MayCheckpoint, StaysOn, Tries, other_side, side}
 use Rattle.coord_checkpoint.proofs.Ends.{fit_of}
 use Rattle.coord_checkpoint.proofs.Made.{failed_later}
 use Rattle.state_records.specs.Spelling.{record_bytes}
 use Rattle.state_records.specs.declared.record.StateRecord.{StateRecord}
 use Rattle.share_coord.specs.Calls.{IsWritten, counted, write_refusal, written_of}
-use Rattle.share_coord.specs.Holding.{GoesTo, IsHeld, IsWithin, Tidies, WritesOnce, WritesTidied}
+use Rattle.share_coord.specs.Holding.{GoesTo, IsHeld, IsWithin, LeavesPending, Tidies, WritesOnce, WritesTidied}
 use Rattle.share_coord.specs.Parts.{KeptState, StoreParts}
 use Rattle.share_coord.specs.Putting.{stored_as}
 use Rattle.share_coord.specs.Recorded.{HasRoomFor, IsBased, IsPending, IsStored, IsWriteRecord, StoresOne, start_told, write_record}
@@ -132,38 +133,65 @@ module _ (es : Entries) (key : KeyParts) (start : ℤ) (runs : List Run) (c : Bo
 
 module _ {D T E : Type 0} (seen : D → DiskView) (snapshots : List (List ℕ)) (old mid new : JournalParts D) (r : Result T E) (alone : StaysOn seen mid new r) where
   -- behind a completed checkpoint it isn't touched
-  left_alone : (b : Bool) → old.on_second ≡ b → mid.on_second ≡ not old.on_second → mid.sealing ≡ false
-      → (if old.on_second then mid.second else mid.first) ≡ live_side old
-      → (new.first ≡ old.first) ⊎ (new.second ≡ old.second)
-  left_alone true e turned low live = inr (by (turned ∙ ap not e) ∙ subst (λ (t : Bool). (if t then mid.second else mid.first) ≡ (if t then old.second else old.first)) e live)
+  kept_second : old.on_second ≡ true → mid.on_second ≡ not old.on_second → mid.sealing ≡ false
+      → (if old.on_second then mid.second else mid.first) ≡ live_side old → new.second ≡ old.second
+  kept_second e turned low live = by (turned ∙ ap not e) ∙ subst (λ (t : Bool). (if t then mid.second else mid.first) ≡ (if t then old.second else old.first)) e live
     where
       by : mid.on_second ≡ false → new.second ≡ mid.second
       by at = ap (λ (t : Bool). if t then new.first else new.second) (sym (alone.same ∙ at)) ∙ (alone.other low ∙ ap (λ (t : Bool). if t then mid.first else mid.second) at)
-  left_alone false e turned low live = inl (by (turned ∙ ap not e) ∙ subst (λ (t : Bool). (if t then mid.second else mid.first) ≡ (if t then old.second else old.first)) e live)
+
+  kept_first : old.on_second ≡ false → mid.on_second ≡ not old.on_second → mid.sealing ≡ false
+      → (if old.on_second then mid.second else mid.first) ≡ live_side old → new.first ≡ old.first
+  kept_first e turned low live = by (turned ∙ ap not e) ∙ subst (λ (t : Bool). (if t then mid.second else mid.first) ≡ (if t then old.second else old.first)) e live
     where
       by : mid.on_second ≡ true → new.first ≡ mid.first
       by at = ap (λ (t : Bool). if t then new.first else new.second) (sym (alone.same ∙ at)) ∙ (alone.other low ∙ ap (λ (t : Bool). if t then mid.first else mid.second) at)
 
-  abbrev OneQuiet : Type 0
-  OneQuiet = IsQuiet seen old.first.disk new.first.disk ⊎ IsQuiet seen old.second.disk new.second.disk
+  abbrev Runs : Type 0
+  Runs = RunsOn seen old.first.disk mid.first.disk × RunsOn seen old.second.disk mid.second.disk
 
-  as_it_was : (new.first ≡ old.first) ⊎ (new.second ≡ old.second) → OneQuiet
-  as_it_was (inl is) = inl (subst (λ (w : Writer D). IsQuiet seen old.first.disk w.disk) (sym is) (λ told. refl))
-  as_it_was (inr is) = inr (subst (λ (w : Writer D). IsQuiet seen old.second.disk w.disk) (sym is) (λ told. refl))
+  abbrev BothQuiet : Type 0
+  BothQuiet = IsQuiet seen old.first.disk new.first.disk × IsQuiet seen old.second.disk new.second.disk
+
+  quiet_then : (a b d : D) → RunsOn seen a b → IsQuiet seen a b → IsQuiet seen b d → IsQuiet seen a d
+  quiet_then a b d runs p q told = q (runs.told ∙ told) ∙ p told
+
+  untouched : (a b : Writer D) → b ≡ a → IsQuiet seen a.disk b.disk
+  untouched a b is = subst (λ (w : Writer D). IsQuiet seen a.disk w.disk) (sym is) (λ told. refl)
+
+  -- so no call failed at all
+  all_quiet : (b : Bool) → old.on_second ≡ b → mid.on_second ≡ not old.on_second → mid.sealing ≡ false
+      → (if old.on_second then mid.second else mid.first) ≡ live_side old → Runs → IsQuiet seen (idle_side old).disk (other_side old mid).disk
+      → IsQuiet seen (side mid.on_second mid) (side mid.on_second new) → BothQuiet
+  all_quiet true e turned low live runs made quiet = (
+    quiet_then old.first.disk mid.first.disk new.first.disk runs.0
+        (subst (λ (t : Bool). IsQuiet seen (if t then old.first else old.second).disk (if t then mid.first else mid.second).disk) e made)
+        (subst (λ (t : Bool). IsQuiet seen (side t mid) (side t new)) (turned ∙ ap not e) quiet),
+    untouched old.second new.second (kept_second e turned low live),
+  )
+  all_quiet false e turned low live runs made quiet = (
+    untouched old.first new.first (kept_first e turned low live),
+    quiet_then old.second.disk mid.second.disk new.second.disk runs.1
+        (subst (λ (t : Bool). IsQuiet seen (if t then old.first else old.second).disk (if t then mid.first else mid.second).disk) e made)
+        (subst (λ (t : Bool). IsQuiet seen (side t mid) (side t new)) (turned ∙ ap not e) quiet),
+  )
 
   -- else it is live still
   still_live : (b : Bool) → old.on_second ≡ b → mid.on_second ≡ old.on_second → (if old.on_second then mid.second else mid.first) ≡ live_side old
-      → IsQuiet seen (side mid.on_second mid) (side mid.on_second new) → OneQuiet
-  still_live true e same live quiet = inr (subst (λ (w : Writer D). IsQuiet seen w.disk new.second.disk)
+      → IsQuiet seen (side mid.on_second mid) (side mid.on_second new) → IsQuiet seen (side old.on_second old) (side old.on_second new)
+  still_live true e same live quiet = subst (λ (t : Bool). IsQuiet seen (side t old) (side t new)) (sym e) (subst (λ (w : Writer D). IsQuiet seen w.disk new.second.disk)
       (subst (λ (t : Bool). (if t then mid.second else mid.first) ≡ (if t then old.second else old.first)) e live)
       (subst (λ (t : Bool). IsQuiet seen (side t mid) (side t new)) (same ∙ e) quiet))
-  still_live false e same live quiet = inl (subst (λ (w : Writer D). IsQuiet seen w.disk new.first.disk)
+  still_live false e same live quiet = subst (λ (t : Bool). IsQuiet seen (side t old) (side t new)) (sym e) (subst (λ (w : Writer D). IsQuiet seen w.disk new.first.disk)
       (subst (λ (t : Bool). (if t then mid.second else mid.first) ≡ (if t then old.second else old.first)) e live)
       (subst (λ (t : Bool). IsQuiet seen (side t mid) (side t new)) (same ∙ e) quiet))
 
-  pub one_quiet : (c : Bool) → Tries seen snapshots old mid c → IsQuiet seen (side mid.on_second mid) (side mid.on_second new) → OneQuiet
-  one_quiet true tries quiet = as_it_was (left_alone old.on_second refl (tries.turned.0 refl).0 (tries.turned.0 refl).1 tries.live)
-  one_quiet false tries quiet = still_live old.on_second refl (tries.turned.1 refl) tries.live quiet
+  pub quiet_but : (c : Bool) → Tries seen snapshots old mid c → MayCheckpoint old snapshots → IsQuiet seen (side mid.on_second mid) (side mid.on_second new)
+      → IsQuietBut seen (MayCheckpoint old snapshots) old new
+  quiet_but true tries may quiet =
+      inl (all_quiet old.on_second refl (tries.turned.0 refl).0 (tries.turned.0 refl).1 tries.live tries.runs (tries.quiet refl) quiet)
+  quiet_but false tries may quiet =
+      inr (may, alone.same ∙ tries.turned.1 refl, still_live old.on_second refl (tries.turned.1 refl) tries.live quiet)
 
 -- ---- both calls
 
@@ -204,12 +232,12 @@ module _ {D : Type 0} (seen : D → DiskView) (old mid new : StoreParts D) (key 
       (subst (λ (l : Entries). IsOwnWritten l key start runs es) tidies.is h)
 
   abbrev MayGo : Type 0
-  MayGo = IsDue old.journal (snapshot_frames old.entries) × (old.journal.end + 33554437 ≤ 2 ^ 62) × (mid.journal.end + 33554437 ≤ 2 ^ 62)
+  MayGo = IsTimely old.journal (snapshot_frames old.entries) × (mid.journal.end + 33554437 ≤ 2 ^ 62)
 
   tried : (mid ≡ old) ⊎ MayGo
   tried = ⊎_elim
       (λ is. inl (λ i. record { journal = is.0 i; entries = (tidies.is ∙ ap (λ (b : Bool). based b old.entries) is.1) i; room = tidies.room i }))
-      (λ may. inr may) (tidies.journal.due held.1.frames held.1.sealing held.1.unwritten held.1.keeps)
+      (λ may. inr (may.0, may.1)) (tidies.journal.due held.1.frames held.1.sealing held.1.unwritten held.1.keeps)
 
   -- a write that is refused as full finds what there was
   pub still : (end : ℕ) → told ≡ Err (Full end) → mid ≡ old
@@ -221,7 +249,7 @@ module _ {D : Type 0} (seen : D → DiskView) (old mid new : StoreParts D) (key 
           let at = f.0 in
           let small = f.1.4.1 in
           let past = f.1.5 in
-          let has = may.2 in
+          let has = may.1 in
           omega (arith, at, small, past, has)
 
   quiet : (t : Result (Unit {0}) StoreFault) → told ≡ t
@@ -230,11 +258,8 @@ module _ {D : Type 0} (seen : D → DiskView) (old mid new : StoreParts D) (key 
   quiet (Ok x) is = elim tried [
     | inl same ↦ subst (λ (s : StoreParts D). IsQuietBut seen (MayCheckpoint s.journal (snapshot_frames s.entries)) s.journal new.journal) same
         (subst (λ (t : Result (Unit {0}) StoreFault). OnOk (stored_as t) (IsQuietBut seen (MayCheckpoint mid.journal (snapshot_frames mid.entries)) mid.journal new.journal)) is once.quiet)
-    | inr may ↦ inr (
-      inl may.0,
-      one_quiet seen (snapshot_frames old.entries) old.journal mid.journal new.journal told alone tidies.checkpointed tidies.journal
-          (subst (λ (t : Result (Unit {0}) StoreFault). OnOk t (IsQuiet seen (side mid.journal.on_second mid.journal) (side mid.journal.on_second new.journal))) is alone.quiet),
-    )
+    | inr may ↦ quiet_but seen (snapshot_frames old.entries) old.journal mid.journal new.journal told alone tidies.checkpointed tidies.journal (inl may.0.0)
+        (subst (λ (t : Result (Unit {0}) StoreFault). OnOk t (IsQuiet seen (side mid.journal.on_second mid.journal) (side mid.journal.on_second new.journal))) is alone.quiet)
   ]
 
   unchanged : (t : Result (Unit {0}) StoreFault) → told ≡ t → IfErr (stored_as t) (λ e. e ≢ store_fault Device → new ≡ old)
@@ -262,17 +287,29 @@ module _ {D : Type 0} (seen : D → DiskView) (old mid new : StoreParts D) (key 
   within pending a b (inl stands) = inl stands
   within pending a b (inr w) = inr (w.0, written_as w.0 w.1, w.2)
 
-  pub tidied_once : WritesTidied seen (HasFailed seen) Written old new (stored_as told)
+  -- what was pending before a completed checkpoint isn't behind it
+  pending_on : (c : Bool) → (c ≡ false → mid.journal.on_second ≡ old.journal.on_second) → (pending : Option Entries)
+      → LeavesPending seen (IsOwnWritten mid.entries key start runs) mid new (if c then None else pending) → LeavesPending seen Written old new pending
+  pending_on true turned pending (inl h) = inr (inl h.1)
+  pending_on false turned pending (inl h) = inl (h.0 ∙ turned refl, h.1)
+  pending_on c turned pending (inr (inl none)) = inr (inl none)
+  pending_on c turned pending (inr (inr x)) = inr (inr (x.0, written_as x.0 x.1, x.2))
+
+  abbrev waits_still : Option Entries → Option Entries
+  waits_still pending = if tidies.checkpointed then None else pending
+
+  pub tidied_once : WritesTidied seen (HasFailed seen) Written true old new (stored_as told)
   tidied_once = record {
     mid = mid;
-    tidies = inr tidies;
+    tidies = tidies;
     quiet = quiet told refl;
     written = on_ok_weaker (stored_as told) (written_as new.entries) once.written;
-    kept = on_ok_weaker (stored_as told) (λ h pending was. h pending (tidies.kept pending was)) once.kept;
+    kept = on_ok_weaker (stored_as told) (λ h pending was. h (waits_still pending) (tidies.kept pending was)) once.kept;
     same = on_err_weaker (stored_as told) (λ is. is ∙ (ap states_of tidies.is ∙ states_based tidies.checkpointed old.entries)) once.same;
     left = on_err_weaker (stored_as told) (λ h. based_both h.0 tidies.checkpointed old.entries mid.entries new.entries h.1 tidies.is) once.left;
     unchanged = unchanged told refl;
-    failed = on_err_weaker (stored_as told) (λ h pending was. ⊎_elim (λ x. inl x) (λ x. inr (x.0, written_as x.0 x.1, x.2)) (h pending (tidies.kept pending was))) once.failed;
+    failed = on_err_weaker (stored_as told)
+        (λ h pending was. pending_on tidies.checkpointed tidies.journal.turned.1 pending (h (waits_still pending) (tidies.kept pending was))) once.failed;
     device = λ is. let x = once.device is in (
       ⊎_elim
           (λ h. inl (failed_later seen old.journal.first.disk mid.journal.first.disk new.journal.first.disk tidies.journal.runs.0 h))
@@ -297,7 +334,7 @@ module _ {D : Type 0} (seen : D → DiskView) (old mid new : StoreParts D) (key 
   abbrev Moves : (frames : List (List ℕ)) (sealing : Option (List (List ℕ))) (pending : Option (List ℕ)) → Type 0
   Moves frames sealing pending = (base : List (List ℕ)) × (seals : Option (List (List ℕ))) × (waits : Option (List ℕ))
       × IsBased (snapshot_frames old.entries) frames base × MaySeal sealing (snapshot_frames old.entries) seals
-      × ((waits ≡ pending) ⊎ (waits ≡ None)) × Keeps seen mid.journal base seals waits
+      × (((base ≡ frames) × (waits ≡ pending)) ⊎ (waits ≡ None)) × Keeps seen mid.journal base seals waits
 
   moves : (c : Bool) → Tries seen (snapshot_frames old.entries) old.journal mid.journal c → (frames : List (List ℕ)) (sealing : Option (List (List ℕ))) (pending : Option (List ℕ))
       → Keeps seen old.journal frames sealing pending → Moves frames sealing pending
@@ -305,7 +342,7 @@ module _ {D : Type 0} (seen : D → DiskView) (old mid new : StoreParts D) (key 
       let h = tries.made refl frames sealing pending was in
       (h.0, None, None, inr h.1, (λ landed is. absurd (let clash : ⊥ = cc in clash)), inr refl, h.2)
   moves false tries frames sealing pending was =
-      let h = tries.kept refl frames sealing pending was in (frames, h.0, pending, inl refl, h.1, inl refl, h.2)
+      let h = tries.kept refl frames sealing pending was in (frames, h.0, pending, inl refl, h.1, inl (refl, refl), h.2)
 
   -- a checkpoint changes no state, so one behind it would store the same
   mid_snapshots : snapshot_frames mid.entries ≡ snapshot_frames old.entries
@@ -334,10 +371,11 @@ module _ {D : Type 0} (seen : D → DiskView) (old mid new : StoreParts D) (key 
       let s = h m.0 m.1 m.2 m.6 in
       (s.0, based_on frames m.0 s.0 m.3 s.1, s.2)
 
-  waits_on : (pending mids waits : Option (List ℕ)) (one : List ℕ) → (mids ≡ pending) ⊎ (mids ≡ None)
-      → (waits ≡ mids) ⊎ ((waits ≡ None) ⊎ (waits ≡ Some one)) → (waits ≡ pending) ⊎ ((waits ≡ None) ⊎ (waits ≡ Some one))
-  waits_on pending mids waits one m (inl is) = ⊎_elim (λ e. inl (is ∙ e)) (λ e. inr (inl (is ∙ e))) m
-  waits_on pending mids waits one m (inr h) = inr h
+  waits_on : (frames base last : List (List ℕ)) (pending mids waits : Option (List ℕ)) (one : List ℕ) → ((base ≡ frames) × (mids ≡ pending)) ⊎ (mids ≡ None)
+      → ((last ≡ base) × (waits ≡ mids)) ⊎ ((waits ≡ None) ⊎ (waits ≡ Some one))
+      → ((last ≡ frames) × (waits ≡ pending)) ⊎ ((waits ≡ None) ⊎ (waits ≡ Some one))
+  waits_on frames base last pending mids waits one m (inl is) = ⊎_elim (λ e. inl (is.0 ∙ e.0, is.1 ∙ e.1)) (λ e. inr (inl (is.1 ∙ e))) m
+  waits_on frames base last pending mids waits one m (inr h) = inr h
 
   pending_behind : (one : StateRecord) → PendingFrom mid one → PendingFrom old one
   pending_behind one h frames sealing pending was =
@@ -348,7 +386,7 @@ module _ {D : Type 0} (seen : D → DiskView) (old mid new : StoreParts D) (key 
         s.2,
         based_on frames m.0 s.0 m.3 s.3,
         seals_on sealing m.1 s.1 m.4 s.4,
-        waits_on pending m.2 s.2 (record_bytes one) m.5 s.5,
+        waits_on frames m.0 s.0 pending m.2 s.2 (record_bytes one) m.5 s.5,
         s.6,
       )
 
@@ -369,7 +407,7 @@ module _ {D : Type 0} (seen : D → DiskView) (old mid new : StoreParts D) (key 
           (h.0 ∙ ap (λ (s : StoreParts D). s.journal.end) same, (h.1.0, record_as h.1.0 h.1.1, h.1.2));
       room = elim tried [
         | inl same ↦ on_ok_weaker (stored_as told) (λ h. (h.0, record_as h.0 h.1, subst (λ (s : StoreParts D). HasRoomFor s.journal.end h.0) same h.2)) stores.room
-        | inr may ↦ on_ok_weaker (stored_as told) (λ h. (h.0, record_as h.0 h.1, room_for may.1 h.0 (stored_behind h.0 h.2))) stores.stored
+        | inr may ↦ on_ok_weaker (stored_as told) (λ h. (h.0, record_as h.0 h.1, room_for may.0.2 h.0 (stored_behind h.0 h.2))) stores.stored
       ];
     }
       where

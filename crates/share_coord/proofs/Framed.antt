@@ -27,7 +27,7 @@ put_alone seen old new buffer written valid is size snapshots r w alone = put_do
           let found = run.each x y left right in
           (found.0, found.1, within_alone x y written (frame_in buffer) [] frames sealing pending snapshots found.0 is valid found.1 found.2);
     })
-    (w.runs_first, w.runs_second)
+    (w.runs_first, w.runs_second) w.turned
     w.quiet
     w.device
     (on_ok_weaker r (λ a frames sealing pending keeps. let h = a frames sealing pending keeps in (h.base, h.from, h.few, h.keeps)) w.kept)

@@ -15,7 +15,7 @@ use Rattle.share_coord.specs.Planning.{LeadsTo}
 use Rattle.share_coord.specs.Stored.{Entries, Accepts, AreTaken, based, records_from, renewed, settled, snapshot_frames}
 use Rattle.share_coord.specs.States.{states_of}
 use Rattle.share_coord.specs.Unwritten.{AreKeptOf, AreStatesOf}
-use Rattle.share_coord.specs.Holding.{Holds, IsWithin, Leaves, StandWith, StandsFor}
+use Rattle.share_coord.specs.Holding.{Holds, IsWithin, Leaves, LeavesPending, StandWith, StandsFor}
 use Rattle.share_coord.specs.Putting.{HasNotPut, HasPut, IsPut, IsPutWithin}
 use Rattle.share_coord.specs.declared.walk.Walk.TheVariants.{First}
 use Rattle.share_model.specs.Keys.{KeyParts}
@@ -160,7 +160,7 @@ module _ {D : Type 0} (seen : D → DiskView) (plain : StateRecord) (fresh : Opt
       let a = accepts c h.one h.is h.valid held.written held.kept in
       holds_by seen new (next c) a.0 room (h.base ++ record_bytes h.one ∷ []) None None None h.keeps
       (taken_then h.base (record_bytes h.one) (base_of c held.written entries) a.0 (base_taken c held.frames h.base held.written held.taken held.kept h.from) a.1) a.2
-      (omega (arith, few, length-append h.base (record_bytes h.one ∷ []))) tt (none_lands (next c))
+      (omega (arith, few, length-append h.base (record_bytes h.one ∷ []))) refl (none_lands (next c))
 
   module _ (Written : Entries → Type 0) (is : (c : Bool) (one : StateRecord) → IsPut plain fresh c one → Written (next c)) where
     landed_stands : (c : Bool) (frames : List (List ℕ)) (sealing : Option (List (List ℕ))) (landed : List (List ℕ)) (written : Entries) → AreTaken frames written
@@ -181,13 +181,12 @@ module _ {D : Type 0} (seen : D → DiskView) (plain : StateRecord) (fresh : Opt
         absurd_bool : true ≡ false → ⊥
         absurd_bool e = cc
 
-    -- the record is pending, or the one from before
-    pub lost : (c : Bool) → ((frames : List (List ℕ)) (sealing : Option (List (List ℕ))) (pending : Option (List ℕ)) → Keeps seen old frames sealing pending
+    -- the record is pending, or the one from before, or none
+    pub lost : (c : Bool) → (c ≡ false → new.on_second ≡ old.on_second) → ((frames : List (List ℕ)) (sealing : Option (List (List ℕ))) (pending : Option (List ℕ)) → Keeps seen old frames sealing pending
         → HasNotPut seen new frames sealing pending (snapshot_frames entries) plain fresh c)
         → (pending : Option Entries) → Holds seen (record { journal = old; entries = entries; room = room }) pending
-        → Holds seen (record { journal = new; entries = based c entries; room = room }) pending
-        ⊎ ((left : Entries) × Written left × Holds seen (record { journal = new; entries = based c entries; room = room }) (Some left))
-    lost c keeps pending held =
+        → LeavesPending seen Written (record { journal = old; entries = entries; room = room }) (record { journal = new; entries = based c entries; room = room }) pending
+    lost c turned keeps pending held =
         let h = keeps held.frames held.sealing held.unwritten held.keeps in
         let base = base_of c held.written entries in
         let taken = base_taken c held.frames h.base held.written held.taken held.kept h.from in
@@ -195,16 +194,15 @@ module _ {D : Type 0} (seen : D → DiskView) (plain : StateRecord) (fresh : Opt
         let few = base_few c held.frames h.base held.few h.from in
         let sealed : (landed : List (List ℕ)) → h.seals ≡ Some landed → StandsFor landed (based c entries) =
         λ landed at. landed_stands c held.frames held.sealing landed held.written held.taken held.kept held.sealed (h.may landed at) in
-        let stays : Leaves base h.waits pending → Holds seen (record { journal = new; entries = based c entries; room = room }) pending =
-        λ leaves. holds_by seen new (based c entries) base room h.base h.seals h.waits pending h.keeps taken kept few leaves sealed in
-        ⊎_elim (λ none. inl (stays (subst (λ (u : Option (List ℕ)). Leaves base u pending) (sym none) tt)))
-        (λ other. ⊎_elim (λ was. inl (stays (leaves_by c h.waits held.unwritten pending held.written held.leaves was)))
-        (λ this. let a = accepts c this.0 this.1 this.2 held.written held.kept in inr (
+        let stays : (waiting : Option Entries) → Leaves base h.waits waiting → Holds seen (record { journal = new; entries = based c entries; room = room }) waiting =
+        λ waiting leaves. holds_by seen new (based c entries) base room h.base h.seals h.waits waiting h.keeps taken kept few leaves sealed in
+        ⊎_elim (λ none. inr (inl (stays None (subst (λ (u : Option (List ℕ)). Leaves base u None) (sym none) refl))))
+        (λ other. ⊎_elim (λ was. inl (turned was.0, stays pending (leaves_by c h.waits held.unwritten pending held.written held.leaves was)))
+        (λ this. let a = accepts c this.0 this.1 this.2 held.written held.kept in inr (inr (
           next c,
           is c this.0 this.1,
-          holds_by seen new (based c entries) base room h.base h.seals h.waits (Some (next c)) h.keeps taken kept few
-              (subst (λ (u : Option (List ℕ)). Leaves base u (Some (next c))) (sym this.3) (a.0, next c, refl, a.1, a.2)) sealed,
-        )) other) h.which
+          stays (Some (next c)) (subst (λ (u : Option (List ℕ)). Leaves base u (Some (next c))) (sym this.3) (a.0, next c, refl, a.1, a.2)),
+        ))) other) h.which
 
     within : (a b : List ℕ) (pending : Option Entries) (held : Holds seen (record { journal = old; entries = entries; room = room }) pending) (found : List (List ℕ)) → IsListed a b found
         → IsPutWithin held.frames held.sealing held.unwritten (snapshot_frames entries) plain fresh found → IsWithin Written entries pending a b

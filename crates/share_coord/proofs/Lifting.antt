@@ -142,7 +142,7 @@ module _ (key : KeyParts) (start : ℤ) where
 
   leaves_raised : (written : Entries) (unwritten : Option (List ℕ)) (pending : Option Entries) → FitsOffset start → AreFit written → Leaves written unwritten pending
       → Leaves written unwritten (option_map Raised pending)
-  leaves_raised written None pending fits fit h = tt
+  leaves_raised written None pending fits fit h = ap (option_map Raised) h
   leaves_raised written (Some frame) pending fits fit h =
       let fit_new = fit_frame written frame h.0 h.3 fit in
       (h.0, Raised h.1, ap (option_map Raised) h.2, h.3, kept_raised h.0 h.1 fits fit_new.1 h.4)
@@ -204,7 +204,7 @@ with_all start a b es (Some lost) h = ⊎_elim (λ x. inl (stands_all start a b 
 
 leaves_all : (start : ℤ) (written : Entries) (unwritten : Option (List ℕ)) (pending : Option Entries) → FitsOffset start → AreFit written
     → Leaves written unwritten pending → Leaves written unwritten (option_map (All start) pending)
-leaves_all start written None pending fits fit h = tt
+leaves_all start written None pending fits fit h = ap (option_map (All start)) h
 leaves_all start written (Some frame) pending fits fit h =
     let fit_new = fit_frame written frame h.0 h.3 fit in
     (h.0, All start h.1, ap (option_map (All start)) h.2, h.3, kept_all start h.0 h.1 fits fit_new.1 h.4)

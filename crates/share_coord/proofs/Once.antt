@@ -37,7 +37,7 @@ untouched seen Failed only_now Written store e other = record {
   same = refl;
   left = (false, refl);
   unchanged = λ _. refl;
-  failed = λ pending held. inl held;
+  failed = λ pending held. inl (refl, held);
   device = λ is. absurd (other Device (err_of e _ is));
   full = λ end is. absurd (other (Full end) (err_of e _ is));
   any_moment = λ pending held. record {
@@ -104,7 +104,7 @@ module _ {D : Type 0} (seen : D → DiskView) (plain : StateRecord) (fresh : Opt
     same = states_based c entries;
     left = (c, refl);
     unchanged = λ other. let s = same_store e at other in λ i. record { journal = s.0 i; entries = ap (λ (b : Bool). based b entries) s.1 i; room = room };
-    failed = lost seen plain fresh old new entries room sorted next follows Written is c (on_err_at r e _ at puts.failed);
+    failed = lost seen plain fresh old new entries room sorted next follows Written is c puts.turned (on_err_at r e _ at puts.failed);
     device = λ here. (puts.device (at ∙ ap Err (err_of e _ here)), (next c, is c puts.chosen puts.is));
     full = λ end here.
         let f = puts.full held.1.frames held.1.sealing held.1.unwritten held.1.keeps end (at ∙ ap Err (err_of e _ here)) in
@@ -148,7 +148,7 @@ rewritten seen Failed P Q old new r f once = record {
   same = once.same;
   left = once.left;
   unchanged = once.unchanged;
-  failed = on_err_weaker r (λ h pending held. ⊎_elim (λ x. inl x) (λ x. inr (x.0, f x.0 x.1, x.2)) (h pending held)) once.failed;
+  failed = on_err_weaker r (λ h pending held. ⊎_elim (λ x. inl x) (λ other. inr (⊎_elim (λ x. inl x) (λ x. inr (x.0, f x.0 x.1, x.2)) other)) (h pending held)) once.failed;
   device = λ at. let x = once.device at in (x.0, (x.1.0, f x.1.0 x.1.1));
   full = λ end at. let x = once.full end at in (x.0, (x.1.0, x.1.1, f x.1.1 x.1.2, x.1.3, x.1.4, x.1.5));
   any_moment = λ pending held. let run = once.any_moment pending held in record {
@@ -169,4 +169,4 @@ pub held_after : {D T : Type 0} (seen : D → DiskView) (Failed : D → D → Ty
     → IsHeld seen old → IsHeld seen new
 held_after seen Failed Written old new (Ok x) once held = (None, once.kept held.0 held.1)
 held_after seen Failed Written old new (Err e) once held =
-    ⊎_elim (λ h. (held.0, h)) (λ h. (Some h.0, h.2)) (once.failed held.0 held.1)
+    ⊎_elim (λ h. (held.0, h.1)) (λ other. ⊎_elim (λ h. (None, h)) (λ h. (Some h.0, h.2)) other) (once.failed held.0 held.1)

@@ -2,6 +2,7 @@
 use Rattle.std.proofs.Common.{◌≡◌, ◌⊎◌, ◌↔◌, ◌<◌, ◌≤◌, ◌+◌, ◌^◌, inl, inr, ⊎_elim, refl, sym, ap, ◌∙◌, subst, arith, ℕ, List, [], ◌∷◌, ◌++◌, length}
 use Rattle.std.proofs.Common.{Bool, true, false, not, Option, Some, None, Result, Ok, Err, OnOk, OnErr, if◌then◌else◌}
 use Rattle.std.proofs.lemmas.Bool.{cases_lt}
+use Rattle.std.proofs.lemmas.Result.{on_ok_weaker, on_err_weaker}
 use Rattle.edge_io.specs.Armed.{RunsOn}
 use Rattle.edge_io.specs.Moments.{LeavesPairs}
 use Rattle.edge_io.specs.Views.{DiskView}
@@ -20,7 +21,7 @@ use Rattle.state_records.specs.Spelling.{IsRecord, record_bytes}
 use Rattle.state_records.specs.declared.record.StateRecord.{StateRecord}
 use Rattle.state_records.specs.declared.record.StateRecord.TheVariants.{Snapshot, Update, Removal, Head, Seal}
 use Rattle.state_records.proofs.Whole.{record_again}
-use Rattle.share_coord.specs.Putting.{HasPut, IsOfKey, IsPut, IsPutWithin, Puts, told_as}
+use Rattle.share_coord.specs.Putting.{HasNotPut, HasPut, IsOfKey, IsPut, IsPutWithin, Puts, told_as}
 use Rattle.share_coord.specs.declared.fault.CoordFault.{CoordFault}
 use Rattle.share_coord.specs.declared.fault.CoordFault.TheVariants.{Store, NoMemory}
 use Rattle.share_coord.proofs.Faults.{same_fault, ok_is_no_err}
@@ -75,6 +76,7 @@ nothing_put seen only_now snapshots plain fresh journal = record {
   memory = λ _. (refl, refl);
   room = tt;
   quiet = tt;
+  turned = λ _. refl;
   any_moment = λ frames sealing pending keeps. paired seen journal.first.disk journal.first.disk journal.second.disk journal.second.disk
       (seen journal.first.disk).image (seen journal.second.disk).image _
       (started seen journal.first.disk (seen journal.first.disk).image (λ a left. only_now journal.first.disk a left))
@@ -123,7 +125,11 @@ module _ {D : Type 0} (seen : D → DiskView) (old new : JournalParts D) (snapsh
     (r : Result ℕ StoreFault) (full : Fills seen old new n c r)
     (run : (frames : List (List ℕ)) (sealing : Option (List (List ℕ))) (pending : Option (List ℕ)) → Keeps seen old frames sealing pending →
     LeavesPairs seen old.first.disk new.first.disk old.second.disk new.second.disk (Finds (IsPutWithin frames sealing pending snapshots plain fresh)))
-    (runs : RunsOn seen old.first.disk new.first.disk × RunsOn seen old.second.disk new.second.disk) where
+    (runs : RunsOn seen old.first.disk new.first.disk × RunsOn seen old.second.disk new.second.disk)
+    (turned : new.on_second ≡ (if c then not old.on_second else old.on_second)) where
+  turn_by : c ≡ false → new.on_second ≡ old.on_second
+  turn_by e = turned ∙ ap (λ (b : Bool). if b then not old.on_second else old.on_second) e
+
   pub put_ok : (k : ℕ) → r ≡ Ok k → IsQuietBut seen (MayCheckpoint old snapshots) old new
       → ((frames : List (List ℕ)) (sealing : Option (List (List ℕ))) (pending : Option (List ℕ)) → Keeps seen old frames sealing pending →
       (base : List (List ℕ)) × IsBase frames snapshots c base × (length base < 2 ^ 62) × Keeps seen new (base ++ bytes c ∷ []) None None)
@@ -141,6 +147,7 @@ module _ {D : Type 0} (seen : D → DiskView) (old new : JournalParts D) (snapsh
     memory = λ e. absurd (ok_is_no_err tt _ e);
     room = λ frames sealing pending keeps. room_by r k old.end n (length (record_bytes plain)) at (full.exact frames sealing pending keeps) size;
     quiet = quiet;
+    turned = turn_by;
     any_moment = run;
     runs = runs;
   }
@@ -176,6 +183,7 @@ module _ {D : Type 0} (seen : D → DiskView) (old new : JournalParts D) (snapsh
     memory = λ e. absurd (store_clash e);
     room = tt;
     quiet = tt;
+    turned = turn_by;
     any_moment = run;
     runs = runs;
   }
@@ -190,6 +198,7 @@ pub put_done : {D : Type 0} (seen : D → DiskView) (old new : JournalParts D) (
     (run : (frames : List (List ℕ)) (sealing : Option (List (List ℕ))) (pending : Option (List ℕ)) → Keeps seen old frames sealing pending →
     LeavesPairs seen old.first.disk new.first.disk old.second.disk new.second.disk (Finds (IsPutWithin frames sealing pending snapshots plain fresh)))
     (runs : RunsOn seen old.first.disk new.first.disk × RunsOn seen old.second.disk new.second.disk)
+    (turned : new.on_second ≡ (if c then not old.on_second else old.on_second))
     → OnOk r (IsQuietBut seen (MayCheckpoint old snapshots) old new) → (r ≡ Err Device → RefusesDevice seen old new)
     → OnOk r ((frames : List (List ℕ)) (sealing : Option (List (List ℕ))) (pending : Option (List ℕ)) → Keeps seen old frames sealing pending →
     (base : List (List ℕ)) × IsBase frames snapshots c base × (length base < 2 ^ 62) × Keeps seen new (base ++ bytes c ∷ []) None None)
@@ -198,10 +207,10 @@ pub put_done : {D : Type 0} (seen : D → DiskView) (old new : JournalParts D) (
     × ((landed : List (List ℕ)) → seals ≡ Some landed → (c ≡ false) × ((sealing ≡ Some landed) ⊎ IsCheckpoint snapshots landed))
     × ((waits ≡ None) ⊎ (((c ≡ false) × (waits ≡ pending)) ⊎ (waits ≡ Some (bytes c)))) × Keeps seen new base seals waits)
     → Puts seen snapshots plain fresh old new c (told_as r)
-put_done seen old new snapshots plain fresh put bytes c put_is bytes_are valid valid_plain n size (Ok k) full run runs quiet device kept failed =
-    put_ok seen old new snapshots plain fresh put bytes c put_is bytes_are valid valid_plain n size (Ok k) full run runs k refl quiet kept
-put_done seen old new snapshots plain fresh put bytes c put_is bytes_are valid valid_plain n size (Err fault) full run runs quiet device kept failed =
-    put_err seen old new snapshots plain fresh put bytes c put_is bytes_are valid valid_plain n size (Err fault) full run runs fault refl device failed
+put_done seen old new snapshots plain fresh put bytes c put_is bytes_are valid valid_plain n size (Ok k) full run runs turned quiet device kept failed =
+    put_ok seen old new snapshots plain fresh put bytes c put_is bytes_are valid valid_plain n size (Ok k) full run runs turned k refl quiet kept
+put_done seen old new snapshots plain fresh put bytes c put_is bytes_are valid valid_plain n size (Err fault) full run runs turned quiet device kept failed =
+    put_err seen old new snapshots plain fresh put bytes c put_is bytes_are valid valid_plain n size (Err fault) full run runs turned fault refl device failed
 
 -- ---- both frames, where a checkpoint is tried
 
@@ -280,3 +289,57 @@ pairs_as seen a b c d P Q f pairs = record {
   later_b = pairs.later_b;
   each = λ x y left right. let found = pairs.each x y left right in (found.0, found.1, f found.0 found.2);
 }
+
+-- ---- where the record behind a checkpoint has no memory, none is tried
+
+module _ (plain behind : StateRecord) where
+  only_plain : (c : Bool) (one : StateRecord) → IsPut plain None c one → c ≡ false
+  only_plain false one is = refl
+  only_plain true one is = let never : ⊥ = none_put is in absurd never
+    where
+      none_put : {one : StateRecord} → ◌≡◌ {A = Option StateRecord} None (Some one) → ⊥
+      none_put e = let clash : ⊥ = cc in clash
+
+  put_more : (c : Bool) (one : StateRecord) → IsPut plain None c one → IsPut plain (Some behind) c one
+  put_more false one is = is
+  put_more true one is = absurd (let clash : true ≡ false = only_plain true one is in cc)
+
+  within_more : (frames : List (List ℕ)) (sealing : Option (List (List ℕ))) (pending : Option (List ℕ)) (snapshots found : List (List ℕ))
+      → IsPutWithin frames sealing pending snapshots plain None found → IsPutWithin frames sealing pending snapshots plain (Some behind) found
+  within_more frames sealing pending snapshots found (inl left) = inl left
+  within_more frames sealing pending snapshots found (inr (inl k)) = inr (inl k)
+  within_more frames sealing pending snapshots found (inr (inr h)) = inr (inr (h.0, h.1, h.2, h.3, put_more h.0 h.2 h.4, h.5, h.6))
+
+  module _ {D : Type 0} (seen : D → DiskView) (snapshots : List (List ℕ)) (old new : JournalParts D) (c : Bool) where
+    has_more : (frames : List (List ℕ)) → HasPut seen new frames snapshots plain None c → HasPut seen new frames snapshots plain (Some behind) c
+    has_more frames h = record { base = h.base; one = h.one; from = h.from; is = put_more c h.one h.is; valid = h.valid; few = h.few; keeps = h.keeps }
+
+    has_not_more : (frames : List (List ℕ)) (sealing : Option (List (List ℕ))) (pending : Option (List ℕ))
+        → HasNotPut seen new frames sealing pending snapshots plain None c → HasNotPut seen new frames sealing pending snapshots plain (Some behind) c
+    has_not_more frames sealing pending h = record {
+      base = h.base;
+      seals = h.seals;
+      waits = h.waits;
+      from = h.from;
+      may = h.may;
+      which = ⊎_elim (λ none. inl none) (λ other. inr (⊎_elim (λ was. inl was) (λ this. inr (this.0, put_more c this.0 this.1, this.2, this.3)) other)) h.which;
+      keeps = h.keeps;
+    }
+
+    pub puts_alone : (r : Result (Unit {0}) CoordFault) → Puts seen snapshots plain None old new c r → Puts seen snapshots plain (Some behind) old new c r
+    puts_alone r p = record {
+      chosen = p.chosen;
+      is = put_more c p.chosen p.is;
+      kept = on_ok_weaker r (λ h frames sealing pending keeps. has_more frames (h frames sealing pending keeps)) p.kept;
+      failed = on_err_weaker r (λ h frames sealing pending keeps. has_not_more frames sealing pending (h frames sealing pending keeps)) p.failed;
+      causes = p.causes;
+      device = p.device;
+      full = p.full;
+      memory = p.memory;
+      room = p.room;
+      quiet = p.quiet;
+      turned = p.turned;
+      any_moment = λ frames sealing pending keeps. pairs_as seen _ _ _ _ (IsPutWithin frames sealing pending snapshots plain None) _
+          (λ found w. within_more frames sealing pending snapshots found w) (p.any_moment frames sealing pending keeps);
+      runs = p.runs;
+    }

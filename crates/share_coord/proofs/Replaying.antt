@@ -119,4 +119,4 @@ pub replayed : {D : Type 0} (seen : D → DiskView) (journal : JournalParts D) (
     → AreTaken (frames_in handed) entries → length handed < 2 ^ 63 → Holds seen (record { journal = journal; entries = entries; room = room }) None
 replayed seen journal handed entries room keeps taken few =
     holds_by seen journal entries entries room (frames_in handed) None None None keeps taken (taken_kept (frames_in handed) entries taken)
-    (omega (arith, few, in_length handed)) tt (none_lands entries)
+    (omega (arith, few, in_length handed)) refl (none_lands entries)

@@ -88,12 +88,12 @@ module _ {D : Type 0} (seen : D → DiskView) (snapshots : List (List ℕ)) (pla
     room = (plain, is false plain refl, on_ok_at r tt _ at puts.room all seals waits keeps);
   }
 
-  waits_by : (waits pending : Option (List ℕ)) → (waits ≡ None) ⊎ (((c ≡ false) × (waits ≡ pending))
+  waits_by : (frames base : List (List ℕ)) → IsBase frames snapshots c base → (waits pending : Option (List ℕ)) → (waits ≡ None) ⊎ (((c ≡ false) × (waits ≡ pending))
       ⊎ ((one : StateRecord) × IsPut plain fresh c one × IsRecord one × (waits ≡ Some (record_bytes one))))
-      → (waits ≡ pending) ⊎ ((waits ≡ None) ⊎ (waits ≡ Some (record_bytes puts.chosen)))
-  waits_by waits pending (inl none) = inr (inl none)
-  waits_by waits pending (inr (inl was)) = inl was.1
-  waits_by waits pending (inr (inr h)) = inr (inr (h.3 ∙ ap (λ (o : StateRecord). Some (record_bytes o)) (one_put c h.0 puts.chosen h.1 puts.is)))
+      → ((base ≡ frames) × (waits ≡ pending)) ⊎ ((waits ≡ None) ⊎ (waits ≡ Some (record_bytes puts.chosen)))
+  waits_by frames base from waits pending (inl none) = inr (inl none)
+  waits_by frames base from waits pending (inr (inl was)) = inl (subst (λ (b : Bool). IsBase frames snapshots b base) was.0 from, was.1)
+  waits_by frames base from waits pending (inr (inr h)) = inr (inr (h.3 ∙ ap (λ (o : StateRecord). Some (record_bytes o)) (one_put c h.0 puts.chosen h.1 puts.is)))
 
   pub stores_err : {T : Type 0} (e : CoordFault) → r ≡ Err e → StoresOne {T = T} seen snapshots Is old new (Err e)
   stores_err e at = record {
@@ -103,7 +103,7 @@ module _ {D : Type 0} (seen : D → DiskView) (snapshots : List (List ℕ)) (pla
       is c puts.chosen puts.is,
       λ frames sealing pending kept.
           let h = on_err_at r e _ at puts.failed frames sealing pending kept in
-          (h.base, h.seals, h.waits, based_by c frames h.base h.from, (λ landed is. (h.may landed is).1), waits_by h.waits pending h.which, h.keeps),
+          (h.base, h.seals, h.waits, based_by c frames h.base h.from, (λ landed is. (h.may landed is).1), waits_by frames h.base h.from h.waits pending h.which, h.keeps),
     );
     full = λ end here.
         let f = puts.full all seals waits keeps end (at ∙ ap Err (err_of e _ here)) in (f.0, (plain, is false plain refl, f.2));

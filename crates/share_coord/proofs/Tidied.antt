@@ -1,5 +1,6 @@
 -- A checkpoint that is tried with no write behind it.
 use Rattle.std.proofs.Common.{◌≡◌, inl, inr, ⊎_elim, refl, sym, subst, ℕ, List, Bool, true, false, Option, None}
+use Rattle.std.specs.Prelude.{if◌then◌else◌}
 use Rattle.std.specs.List.Sorted.{IsStrictlySortedBy}
 use Rattle.std.specs.Map.{keys_of}
 use Rattle.checkpoint_journal.specs.Generations.{IsListed}
@@ -22,12 +23,13 @@ module _ {D : Type 0} (seen : D → DiskView) (old new : JournalParts D) (entrie
   abbrev New : Entries → StoreParts D
   New es = record { journal = new; entries = es; room = room }
 
-  stays : (c : Bool) → Tries seen (snapshot_frames entries) old new c → (pending : Option Entries) → Holds seen Old pending → Holds seen (New (based c entries)) pending
+  stays : (c : Bool) → Tries seen (snapshot_frames entries) old new c → (pending : Option Entries) → Holds seen Old pending
+      → Holds seen (New (based c entries)) (if c then None else pending)
   stays true tries pending held =
       let h = tries.made refl held.frames held.sealing held.unwritten held.keeps in
       let few = h.1.few in
-      holds_by seen new (renewed entries) (settled entries) room h.0 None None pending h.2
-      (checkpoint_taken entries held.written sorted held.frames h.0 held.taken held.kept h.1) (settled_of entries) few tt
+      holds_by seen new (renewed entries) (settled entries) room h.0 None None None h.2
+      (checkpoint_taken entries held.written sorted held.frames h.0 held.taken held.kept h.1) (settled_of entries) few refl
       (none_lands (renewed entries))
   stays false tries pending held =
       let h = tries.kept refl held.frames held.sealing held.unwritten held.keeps in

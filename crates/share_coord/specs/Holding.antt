@@ -1,7 +1,7 @@
 -- What a store in memory and its two disks stand for together, and what a call that writes once leaves. This project's own.
 -- For example a store whose write failed at its last device call holds what it held, with the write pending, and a restart after a
 -- power loss finds it done or not.
-use Rattle.std.specs.Prelude.{◌≡◌, ◌≢◌, ◌⊎◌, ◌<◌, ◌+◌, ◌^◌, ℕ, List, length, Some, None, Bool, Result, OnOk, OnErr, IfErr, Err}
+use Rattle.std.specs.Prelude.{◌≡◌, ◌≢◌, ◌⊎◌, ◌<◌, ◌+◌, ◌^◌, ℕ, List, length, Some, None, Bool, true, false, Result, OnOk, OnErr, IfErr, Err, if◌then◌else◌}
 use Rattle.std.specs.declared.option.Option.{Option}
 use Rattle.edge_io.specs.Moments.{LeavesPairs}
 use Rattle.share_model.specs.declared.fault.StoreFault.TheVariants.{Device, Full}
@@ -22,10 +22,9 @@ use Rattle.edge_io.specs.Views.{DiskView}
 abbrev pub parts_of : {D : Type 0} → Store D → StoreParts D
 parts_of store = record { journal = store.journal; entries = store.table.entries; room = store.room }
 
--- What the frame that is pending would leave of what is written, and of what is kept. Where none is, a write that was pending before a
--- checkpoint, which mended it away, is still told as pending until the next write that is done.
+-- What the frame that is pending would leave of what is written, and of what is kept. Where none is, no write is.
 abbrev pub Leaves : Entries → Option (List ℕ) → Option Entries → Type 0
-Leaves written None pending = Unit {0}
+Leaves written None pending = pending ≡ None
 Leaves written (Some frame) pending = (new : Entries) × (lost : Entries) × (pending ≡ Some lost) × Accepts written frame new × AreKeptOf new lost
 
 -- contents stand for states that are, once raised, these, or those of the pending write, if one is
@@ -63,6 +62,11 @@ IsHeld seen store = (pending : Option Entries) × Holds seen store pending
 abbrev pub IsWithin : (Entries → Type 0) → Entries → Option Entries → List ℕ → List ℕ → Type 0
 IsWithin Written old pending a b = StandWith a b old pending ⊎ ((new : Entries) × Written new × AreStatesOf a b new)
 
+-- Behind a write that failed at the device: where no checkpoint was completed, what was pending may still be; or nothing is; or this write is.
+abbrev pub LeavesPending : {D : Type 0} → (D → DiskView) → (Entries → Type 0) → (old new : StoreParts D) → Option Entries → Type 0
+LeavesPending seen Written old new pending = ((new.journal.on_second ≡ old.journal.on_second) × Holds seen new pending)
+    ⊎ (Holds seen new None ⊎ ((lost : Entries) × Written lost × Holds seen new (Some lost)))
+
 -- A call that writes once, and what it leaves where it is granted. `Failed` says
 -- that a device call failed.
 pub record WritesOnce {D T : Type 0} (seen : D → DiskView) (Failed : D → D → Type 0)
@@ -72,12 +76,11 @@ pub record WritesOnce {D T : Type 0} (seen : D → DiskView) (Failed : D → D �
   pub written : OnOk result (Written new.entries)
   pub kept : OnOk result ((pending : Option Entries) → Holds seen old pending → Holds seen new None)
   -- Where it doesn't, the states are as before, and so is what is kept but for the numbers that a checkpoint renews. After a device fault the
-  -- pending write is the one from before or this one; another refusal changes nothing.
+  -- pending write is the one from before, which no completed checkpoint leaves, or this one, or none; another refusal changes nothing.
   pub same : OnErr result (states_of new.entries ≡ states_of old.entries)
   pub left : OnErr result ((checkpointed : Bool) × (new.entries ≡ based checkpointed old.entries))
   pub unchanged : IfErr result (λ e. e ≢ store_fault Device → new ≡ old)
-  pub failed : OnErr result ((pending : Option Entries) → Holds seen old pending →
-      Holds seen new pending ⊎ ((lost : Entries) × Written lost × Holds seen new (Some lost)))
+  pub failed : OnErr result ((pending : Option Entries) → Holds seen old pending → LeavesPending seen Written old new pending)
   -- a device fault comes only to a call that is granted and where a device call failed, and Full where the frame would end past 2^62
   pub device : result ≡ Err (store_fault Device) →
       (Failed old.journal.first.disk new.journal.first.disk ⊎ Failed old.journal.second.disk new.journal.second.disk) × ((lost : Entries) × Written lost)
@@ -89,33 +92,37 @@ pub record WritesOnce {D T : Type 0} (seen : D → DiskView) (Failed : D → D �
       (IsWithin Written old.entries pending)
 
 -- A checkpoint of all keys is tried with no write behind it, and refuses nothing: the states are those that there were. At each moment since it
--- began, and behind it, a crash leaves these, with or without the write that is pending. Behind a completed one each key's last
+-- began a crash leaves these, with or without the write that is pending. Behind a completed one nothing is pending, and each key's last
 -- snapshot is its first.
 pub record Tidies {D : Type 0} (seen : D → DiskView) (old new : StoreParts D) : Type 0 where
   pub checkpointed : Bool
   pub journal : Tries seen (snapshot_frames old.entries) old.journal new.journal checkpointed
   pub is : new.entries ≡ based checkpointed old.entries
   pub room : new.room ≡ old.room
-  pub kept : (pending : Option Entries) → Holds seen old pending → Holds seen new pending
+  pub kept : (pending : Option Entries) → Holds seen old pending → Holds seen new (if checkpointed then None else pending)
   pub any_moment : (pending : Option Entries) → Holds seen old pending →
       LeavesPairs seen old.journal.first.disk new.journal.first.disk old.journal.second.disk new.journal.second.disk
       (λ a b. StandWith a b old.entries pending)
 
--- A write, alone or behind a checkpoint that was tried by itself: what `WritesOnce` says of a write, by what stood before both. Of the
--- moments on the way each of the two calls says its own.
+-- what is behind a call that tries a checkpoint, if it does
+abbrev pub TidiesWhere : {D : Type 0} → (D → DiskView) → Bool → StoreParts D → StoreParts D → Type 0
+TidiesWhere seen true old mid = Tidies seen old mid
+TidiesWhere seen false old mid = mid ≡ old
+
+-- A write, alone or behind a checkpoint that is tried by itself where one is due: what `WritesOnce` says of a write, by what stood before
+-- both. Of the moments on the way each of the two calls says its own.
 pub record WritesTidied {D T : Type 0} (seen : D → DiskView) (Failed : D → D → Type 0)
-    (Written : Entries → Type 0) (old new : StoreParts D) (result : Result T CoordFault) : Type 0 where
-  -- what stands between them; the same, where no checkpoint was to be tried
+    (Written : Entries → Type 0) (tries : Bool) (old new : StoreParts D) (result : Result T CoordFault) : Type 0 where
+  -- what stands between them
   pub mid : StoreParts D
-  pub tidies : (mid ≡ old) ⊎ Tidies seen old mid
+  pub tidies : TidiesWhere seen tries old mid
   pub quiet : OnOk result (IsQuietBut seen (MayCheckpoint old.journal (snapshot_frames old.entries)) old.journal new.journal)
   pub written : OnOk result (Written new.entries)
   pub kept : OnOk result ((pending : Option Entries) → Holds seen old pending → Holds seen new None)
   pub same : OnErr result (states_of new.entries ≡ states_of old.entries)
   pub left : OnErr result ((checkpointed : Bool) × (new.entries ≡ based checkpointed old.entries))
   pub unchanged : IfErr result (λ e. e ≢ store_fault Device → new ≡ old)
-  pub failed : OnErr result ((pending : Option Entries) → Holds seen old pending →
-      Holds seen new pending ⊎ ((lost : Entries) × Written lost × Holds seen new (Some lost)))
+  pub failed : OnErr result ((pending : Option Entries) → Holds seen old pending → LeavesPending seen Written old new pending)
   pub device : result ≡ Err (store_fault Device) →
       (Failed old.journal.first.disk new.journal.first.disk ⊎ Failed old.journal.second.disk new.journal.second.disk) × ((lost : Entries) × Written lost)
   pub full : (end : ℕ) → result ≡ Err (store_fault (Full end)) → (end ≡ old.journal.end)

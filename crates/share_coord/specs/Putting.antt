@@ -99,6 +99,8 @@ pub record Puts {D : Type 0} (seen : D → DiskView) (snapshots : List (List ℕ
   pub room : OnOk result ((frames : List (List ℕ)) (sealing : Option (List (List ℕ))) (pending : Option (List ℕ)) → Keeps seen old frames sealing pending →
       HasRoomFor old.end plain)
   pub quiet : OnOk result (IsQuietBut seen (MayCheckpoint old snapshots) old new)
+  -- the same disk is live where no checkpoint was completed
+  pub turned : checkpointed ≡ false → new.on_second ≡ old.on_second
   pub any_moment : (frames : List (List ℕ)) (sealing : Option (List (List ℕ))) (pending : Option (List ℕ)) → Keeps seen old frames sealing pending →
       LeavesPairs seen old.first.disk new.first.disk old.second.disk new.second.disk
       (Finds (IsPutWithin frames sealing pending snapshots plain fresh))

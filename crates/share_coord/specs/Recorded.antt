@@ -98,13 +98,15 @@ IsStored seen snapshots old new one = (frames : List (List ℕ)) (sealing : Opti
     Keeps seen old frames sealing pending →
     (base : List (List ℕ)) × IsBased snapshots frames base × Keeps seen new (base ++ record_bytes one ∷ []) None None
 
--- The frames are those that were there, or those of a checkpoint, and what is pending is the frame from before, that of the record, or none.
+-- The frames are those that were there, or those of a checkpoint, and what is pending is that of the record, or none, or the frame from before,
+-- which no checkpoint leaves.
 -- A checkpoint whose seal may still land is the one from before, or one of these snapshots.
 abbrev pub IsPending : {D : Type 0} → (D → DiskView) → (snapshots : List (List ℕ)) → JournalParts D → JournalParts D → StateRecord → Type 0
 IsPending seen snapshots old new one = (frames : List (List ℕ)) (sealing : Option (List (List ℕ))) (pending : Option (List ℕ)) →
     Keeps seen old frames sealing pending →
     (base : List (List ℕ)) × (seals : Option (List (List ℕ))) × (waits : Option (List ℕ)) × IsBased snapshots frames base
-    × MaySeal sealing snapshots seals × ((waits ≡ pending) ⊎ ((waits ≡ None) ⊎ (waits ≡ Some (record_bytes one)))) × Keeps seen new base seals waits
+    × MaySeal sealing snapshots seals × (((base ≡ frames) × (waits ≡ pending)) ⊎ ((waits ≡ None) ⊎ (waits ≡ Some (record_bytes one))))
+    × Keeps seen new base seals waits
 
 -- A call that stores one record, which `Is` tells: its frame, and no other but those of a checkpoint of these snapshots before it, is stored,
 -- may be pending after a device fault, or has no room. So the call is refused as full where this frame has no room, and nowhere else.

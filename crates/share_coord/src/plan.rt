@@ -286,7 +286,7 @@ fn fresh_update(
     })
 }
 
-// The record behind a checkpoint, where one is tried.
+// The record behind a checkpoint, where one is tried. None is tried where there is no memory for it.
 fn fresh_where(
     alloc: Global,
     numbers: &Numbers,
@@ -294,11 +294,11 @@ fn fresh_where(
     over: &Runs,
     complete: u64,
     tries: bool,
-) -> Result<Option<Fresh>, NoMemory>
+) -> Option<Fresh>
     requires ranges { IsEpoch numbers.now.state_epoch × IsEpoch numbers.now.leader_epoch × IsStart told }
     requires over { AreStoredRuns over.now.list }
     requires few { length over.now.list ≤ 1000000 }
-    ensures { IfOk result (λ o. IfSome o (λ f. (f.written ≡ update_record (record {
+    ensures { IfSome result (λ f. (f.written ≡ update_record (record {
       key = numbers.now.key;
       snapshot = 0;
       state_epoch = numbers.now.state_epoch;
@@ -306,13 +306,15 @@ fn fresh_where(
       start = told;
       complete = Some complete;
       runs = over.now.list;
-    })) × (f.snapshot ≡ 0) × (f.updates ≡ 1))) }
+    })) × (f.snapshot ≡ 0) × (f.updates ≡ 1)) }
 {
     if !tries {
-        return Ok(None);
+        return None;
     }
-    let fresh = fresh_update(alloc, numbers, told, over, complete)?;
-    Ok(Some(fresh))
+    match fresh_update(alloc, numbers, told, over, complete) {
+        Ok(fresh) => Some(fresh),
+        Err(_) => None,
+    }
 }
 
 // Behind a checkpoint an initialisation is the first snapshot of its key, or the second.
@@ -378,9 +380,7 @@ pub(crate) fn planned(
         return Err(CoordFault::TooMany { runs: count as u64 });
     }
     let complete = complete_after(&kept.view.runs, kept.view.complete(), &over, start);
-    let Ok(fresh) = fresh_where(alloc, numbers, told, &over, complete, tries) else {
-        return Err(CoordFault::NoMemory);
-    };
+    let fresh = fresh_where(alloc, numbers, told, &over, complete, tries);
     let updates = kept.counted(start);
     if updates < 500 {
         return Ok(Changes {

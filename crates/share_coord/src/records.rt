@@ -82,7 +82,8 @@ pub(crate) fn put_record<D: Disk>(
     }
 }
 
-// Puts a record into the journal, and tries a checkpoint before it; `fresh` is the record behind one.
+// Puts a record into the journal, and tries a checkpoint before it; `fresh` is the record behind one. None is tried
+// where there is no memory for that.
 pub(crate) fn put_behind<D: Disk>(
     alloc: Global,
     journal: &mut StateJournal<D>,
@@ -93,13 +94,10 @@ pub(crate) fn put_behind<D: Disk>(
     requires { FitFrames written.now (Some fresh.now) }
     ensures { Puts D.seen (snapshot_frames snapshots.entry) written.now (Some fresh.now) journal.old journal.new result.checkpointed result.result }
 {
-    let Ok(mut buffer) = buffer_for(alloc, written) else {
-        return Put {
-            checkpointed: false,
-            result: Err(CoordFault::NoMemory),
-        };
-    };
     let Ok(mut behind) = buffer_for(alloc, fresh) else {
+        return put_record(alloc, journal, written);
+    };
+    let Ok(mut buffer) = buffer_for(alloc, written) else {
         return Put {
             checkpointed: false,
             result: Err(CoordFault::NoMemory),

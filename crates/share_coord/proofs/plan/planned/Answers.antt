@@ -16,11 +16,11 @@ use Rattle.share_coord.proofs.plan.planned.Goals as goal
 pub complete_after-complete-requires-clause-over : goal.complete_after-complete-requires-clause-over
 complete_after-complete-requires-clause-over c = written_stored c.args.runs.now c.in-Ok.over.list c.requires.runs c.in-Ok.ensures
 
-pub fresh_where-requires-clause-over : goal.fresh_where-requires-clause-over
-fresh_where-requires-clause-over c = written_stored c.args.runs.now c.in-Ok.over.list c.requires.runs c.in-Ok.ensures
+pub fresh_where-fresh-requires-clause-over : goal.fresh_where-fresh-requires-clause-over
+fresh_where-fresh-requires-clause-over c = written_stored c.args.runs.now c.in-Ok.over.list c.requires.runs c.in-Ok.ensures
 
-pub fresh_where-requires-clause-few : goal.fresh_where-requires-clause-few
-fresh_where-requires-clause-few c =
+pub fresh_where-fresh-requires-clause-few : goal.fresh_where-fresh-requires-clause-few
+fresh_where-fresh-requires-clause-few c =
     let one : length c.list.result.now ≡ length c.in-Ok.over.list = ap (λ (l : List Run). length l) c.list.ensures.same in
     omega (arith, one, c.max-count.ensures, c.if-count-gt-MAX_RUNS.false)
 
@@ -33,8 +33,8 @@ update-requires-clause-rows c = laid_stored _ _ _ _ c.in-Ok-laid.ensures.laid c.
 pub snapshot-requires-clause-rows : goal.snapshot-requires-clause-rows
 snapshot-requires-clause-rows c = laid_stored _ _ _ _ c.in-Ok-laid.ensures.laid c.kept.invariant.0.runs (written_stored c.args.runs.now c.in-Ok.over.list c.requires.runs c.in-Ok.ensures)
 
-pub fresh_where-requires-clause-ranges : goal.fresh_where-requires-clause-ranges
-fresh_where-requires-clause-ranges c =
+pub fresh_where-fresh-requires-clause-ranges : goal.fresh_where-fresh-requires-clause-ranges
+fresh_where-fresh-requires-clause-ranges c =
     let n = c.args.numbers.now in
     let known = shown c.args.kept.now in
     let fit : IsKeptState known.view = c.known.ensures in
@@ -97,7 +97,7 @@ returns-then-updates-lt500-clause-plan c =
       tells = false;
     } = search rules in
     planned_update n.key known n.state_epoch n.leader_epoch n.start c.args.runs.now over rows c.key_fits.ensures c.in-Ok.ensures laid few_over few c.complete_after-complete.result complete
-    told told_is c.update.result.written (shown c.update.result.kept) c.in-Ok-fresh_where.fresh c.in-Ok-fresh_where.ensures low plain kept
+    told told_is c.update.result.written (shown c.update.result.kept) c.fresh_where-fresh.result c.fresh_where-fresh.ensures low plain kept
 
 pub returns-in-Ok-snapshot-clause-plan : goal.returns-in-Ok-snapshot-clause-plan
 returns-in-Ok-snapshot-clause-plan c =
@@ -136,4 +136,4 @@ returns-in-Ok-snapshot-clause-plan c =
       tells = false;
     } = search rules in
     planned_snapshot n.key known n.state_epoch n.leader_epoch n.start c.args.runs.now over rows c.key_fits.ensures c.in-Ok.ensures laid few_over few c.complete_after-complete.result complete
-    told told_is c.in-Ok-snapshot.change.written (shown c.in-Ok-snapshot.change.kept) c.in-Ok-fresh_where.fresh c.in-Ok-fresh_where.ensures high plain kept
+    told told_is c.in-Ok-snapshot.change.written (shown c.in-Ok-snapshot.change.kept) c.fresh_where-fresh.result c.fresh_where-fresh.ensures high plain kept

@@ -31,7 +31,7 @@ returns g c = λ snapshots.
           let found = run.each x y left right in
           (found.0, found.1, within_alone x y c.args.written.now (frame_in c.deref_mut.result.now) [] frames sealing pending snapshots found.0 is c.in-Ok.ensures.valid found.1 found.2);
     })
-    (w.runs_first, w.runs_second)
+    (w.runs_first, w.runs_second) w.turned
     w.quiet
     w.device
     (on_ok_weaker c.append-appended.result (λ a frames sealing pending keeps. let h = a frames sealing pending keeps in (h.base, h.from, h.few, h.keeps)) w.kept)
