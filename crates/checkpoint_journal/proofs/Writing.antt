@@ -1,5 +1,5 @@
 -- A checkpoint while it is written: what the disk has then is not live, or is the checkpoint.
-use Rattle.std.proofs.Common.{◌≡◌, ◌⊎◌, inl, inr, refl, sym, ap, ◌∙◌, subst, arith, append-nil, append_assoc, ℕ, ◌<◌, ◌+◌, ◌^◌, Bool, List, [], ◌∷◌, ◌++◌, length, Option, Some, None}
+use Rattle.std.proofs.Common.{◌≡◌, ◌⊎◌, Result, Err, inl, inr, refl, sym, ap, ◌∙◌, subst, arith, append-nil, append_assoc, ℕ, ◌<◌, ◌+◌, ◌^◌, Bool, List, [], ◌∷◌, ◌++◌, length, Option, Some, None}
 use Rattle.edge_io.specs.Armed.{RunsOn}
 use Rattle.edge_io.specs.Moments.{LeavesOnly}
 use Rattle.edge_io.specs.Views.{DiskView}
@@ -13,7 +13,10 @@ use Rattle.gate_journal.specs.Spares.{HasFrames, IsSpare}
 use Rattle.gate_journal.proofs.Spares.{either_way, spare_as, spare_either, spare_rest}
 use Rattle.checkpoint_journal.specs.Checkpoints.{AreSnapshots, IsNext, IsUnfinished}
 use Rattle.checkpoint_journal.specs.Generations.{IsBeaten, checkpoint_of, head_frame, seal_frame}
-use Rattle.checkpoint_journal.specs.Making.{DoesSome, FailsOrFull, Halts, IsMaking}
+use Rattle.edge_io.specs.Causes.{Rose}
+use Rattle.checkpoint_journal.specs.Making.{DoesSome, FailsOrFull, Halts, IsMaking, IsUnmade, SealFails}
+use Rattle.checkpoint_journal.specs.declared.making.CheckpointFault.{CheckpointFault}
+use Rattle.checkpoint_journal.specs.declared.making.CheckpointFault.TheVariants.{Uncleared, Unsealed, Sealing}
 use Rattle.checkpoint_journal.specs.Spares.{IsBeside, IsIdle}
 use Rattle.checkpoint_journal.proofs.Marks.{begun, snapshots_push}
 use Rattle.checkpoint_journal.proofs.Stopping.{full_halts, some_then}
@@ -155,3 +158,25 @@ module _ (on_second : Bool) (live : ℕ) (sealing : Option (List (List ℕ))) (n
     none = none;
     spare = spare_as seen journal IsUnfinished (IsIdle on_second live None) (unfinished_idle on_second live None none) s;
   }
+
+  -- by how the seal failed
+  pub seal_unmade : {D : Type 0} (seen : D → DiskView) (old new : Writer D) (e : CheckpointFault) → AreSnapshots snapshots
+      → IsAtRest seen old (head_frame n ∷ snapshots) → SealFails seen old new e → IsUnmade seen new on_second live sealing n snapshots e
+  seal_unmade seen old new Uncleared all rest h = absurd h
+  seal_unmade seen old new Unsealed all rest h = subst (λ (w : Writer _). IsBeside seen w on_second live None) (sym h)
+      (unsealed_beside seen old (spare_rest seen old IsUnfinished (head_frame n ∷ snapshots) (inl refl) (unfinished n snapshots lt all) rest.stands))
+  seal_unmade seen old new Sealing all rest h = (all, seal_fails all seen new (h.1 (head_frame n ∷ snapshots) rest))
+
+pub seal_stops : {D : Type 0} (seen : D → DiskView) (old new : Writer D) (e : CheckpointFault) → SealFails seen old new e → FailsOrFull seen old new
+seal_stops seen old new Uncleared h = absurd h
+seal_stops seen old new Unsealed h = inr h
+seal_stops seen old new Sealing h = inl h.0
+
+pub seal_rose : {D : Type 0} (seen : D → DiskView) (old new : Writer D) (e : CheckpointFault) → SealFails seen old new e → e ≡ Sealing
+    → Rose (seen old.disk).faults (seen new.disk).faults
+seal_rose seen old new Uncleared h is = absurd h
+seal_rose seen old new Unsealed h is = let never : ⊥ = cc in absurd never
+seal_rose seen old new Sealing h is = h.0
+
+pub err_same : {T E : Type 0} (x y : E) → ◌≡◌ {A = Result T E} (Err x) (Err y) → x ≡ y
+err_same x y is = cc

@@ -6,10 +6,10 @@ use Rattle.std.specs.declared.option.Option.{Option}
 use Rattle.edge_io.specs.Causes.{Rose}
 use Rattle.edge_io.specs.Counting.{DoesCalls}
 use Rattle.edge_io.specs.Views.{DiskView}
-use Rattle.gate_journal.specs.Journals.{IsAtRest}
+use Rattle.gate_journal.specs.Journals.{IsAtRest, Stands}
 use Rattle.gate_journal.specs.declared.writer.Writer.{Writer}
 use Rattle.checkpoint_journal.specs.Checkpoints.{AreSnapshots}
-use Rattle.checkpoint_journal.specs.Generations.{checkpoint_of, head_frame}
+use Rattle.checkpoint_journal.specs.Generations.{checkpoint_of, head_frame, seal_frame}
 use Rattle.checkpoint_journal.specs.Spares.{IsBeside, IsIdle}
 use Rattle.checkpoint_journal.specs.declared.making.CheckpointFault.{CheckpointFault}
 use Rattle.checkpoint_journal.specs.declared.making.CheckpointFault.TheVariants.{Uncleared, Unsealed, Sealing}
@@ -56,3 +56,10 @@ Halts seen old new generation = Rose (seen old.disk).faults (seen new.disk).faul
 abbrev pub HasStopped : {D : Type 0} → (D → DiskView) → Writer D → Writer D → ℕ → Type 0
 HasStopped seen old new generation = Rose (seen old.disk).faults (seen new.disk).faults
     ⊎ ((n : ℕ) × (0 < n) × DoesCalls seen n old.disk new.disk × (frames : List (List ℕ)) × HasBegun generation frames × IsAtRest seen new frames)
+
+-- The append of a seal failed: by a call of its disk, and then it may land; or for want of room, and nothing is changed.
+abbrev pub SealFails : {D : Type 0} → (D → DiskView) → Writer D → Writer D → CheckpointFault → Type 0
+SealFails seen old new Uncleared = ⊥
+SealFails seen old new Unsealed = new ≡ old
+SealFails seen old new Sealing = Rose (seen old.disk).faults (seen new.disk).faults
+    × ((frames : List (List ℕ)) → IsAtRest seen old frames → Stands seen new frames None ⊎ Stands seen new frames (Some seal_frame))

@@ -1,5 +1,5 @@
 // Writes a checkpoint to the disk that isn't live.
-ghost use Rattle.std.specs.Prelude.{◌≡◌, ◌⊎◌, ◌<◌, ◌^◌, ◌++◌, [], ◌∷◌, List, ℕ, Bool, Some, None, IfErr, OnOk, OnErr};
+ghost use Rattle.std.specs.Prelude.{◌≡◌, ◌⊎◌, ◌<◌, ◌^◌, ◌++◌, [], ◌∷◌, List, ℕ, Bool, Some, None, Err, IfErr, OnOk, OnErr};
 ghost use Rattle.std.specs.declared.option.Option.{Option};
 ghost use Rattle.edge_io.specs.Armed.{RunsOn};
 ghost use Rattle.edge_io.specs.Causes.{Rose};
@@ -10,13 +10,14 @@ ghost use Rattle.gate_journal.specs.Journals.{IsAtRest, IsQuiet, Stands};
 ghost use Rattle.gate_journal.specs.Spares.{HasFrames, IsSpare};
 ghost use Rattle.checkpoint_journal.specs.Checkpoints.{AreSnapshots, IsUnfinished};
 ghost use Rattle.checkpoint_journal.specs.Generations.{checkpoint_of, head_frame, seal_frame};
-ghost use Rattle.checkpoint_journal.specs.Making.{DoesSome, FailsOrFull, Halts, HasStopped, IsMaking, IsUnmade};
+ghost use Rattle.checkpoint_journal.specs.Making.{DoesSome, FailsOrFull, Halts, HasStopped, IsMaking, IsUnmade, SealFails};
 ghost use Rattle.checkpoint_journal.specs.Spares.{IsBeside, IsIdle};
 
 use crate::head::{head_buffer, seal_buffer};
 use crate::snapshots::Snapshots;
 use edge_io::Disk;
 use gate_journal::Journal;
+use share_model::StoreFault;
 use std::alloc::Global;
 
 /// How far a checkpoint came that wasn't made.
@@ -139,21 +140,20 @@ fn write_unsealed<D: Disk, S: Snapshots>(
     }
 }
 
-// The seal: four device calls.
-fn write_seal<D: Disk>(idle: &mut Journal<D>) -> Result<(), NotMade>
+// The seal: four device calls. Where it has no room it isn't written.
+fn write_seal<D: Disk>(idle: &mut Journal<D>) -> Result<(), CheckpointFault>
     ensures ok { OnOk result ((frames : List (List ℕ)) → IsAtRest D.seen idle.old frames → IsAtRest D.seen idle.new (frames ++ seal_frame ∷ [])) }
-    ensures failed { OnErr result ((frames : List (List ℕ)) → IsAtRest D.seen idle.old frames →
-        Stands D.seen idle.new frames None ⊎ Stands D.seen idle.new frames (Some seal_frame)) }
+    ensures failed { IfErr result (λ e. SealFails D.seen idle.old idle.new e) }
     ensures any_moment { (frames : List (List ℕ)) → IsAtRest D.seen idle.old frames →
         LeavesOnly D.seen idle.old.disk idle.new.disk (IsBeforeOrAfter frames seal_frame) }
     ensures runs { RunsOn D.seen idle.old.disk idle.new.disk }
     ensures calls { OnOk result (DoesSome D.seen idle.old.disk idle.new.disk) }
-    ensures stops { OnErr result (FailsOrFull D.seen idle.old idle.new) }
 {
     let mut buffer = seal_buffer();
-    match put_frame(idle, &mut buffer) {
-        Ok(()) => Ok(()),
-        Err(_) => Err(NotMade),
+    match idle.append(&mut buffer) {
+        Ok(_) => Ok(()),
+        Err(StoreFault::Device) => Err(CheckpointFault::Sealing),
+        Err(StoreFault::Full { .. }) => Err(CheckpointFault::Unsealed),
     }
 }
 
@@ -181,10 +181,11 @@ pub fn write_checkpoint<D: Disk, S: Snapshots>(
         LeavesOnly D.seen idle.old.disk idle.new.disk (HasFrames (IsMaking on_second live sealing generation (S.rest snapshots.old))) }
     ensures runs { RunsOn D.seen idle.old.disk idle.new.disk }
 
-    // At Ok no call of the disk failed. At Err one did, or what the disk had is gone.
+    // At Ok no call of the disk failed. At Err one did, or what the disk had is gone; where the seal may land, one did.
     ensures quiet { OnOk result (IsQuiet D.seen idle.old.disk idle.new.disk) }
     ensures stops { OnErr result ((on_second : Bool) (live : ℕ) (sealing : Option (List (List ℕ))) → IsBeside D.seen idle.old on_second live sealing →
         HasStopped D.seen idle.old idle.new generation) }
+    ensures seals { result ≡ Err CheckpointFault.Sealing → Rose (D.seen idle.old.disk).faults (D.seen idle.new.disk).faults }
 {
     if let Err(_) = erase(idle) {
         return Err(CheckpointFault::Uncleared);
@@ -194,6 +195,6 @@ pub fn write_checkpoint<D: Disk, S: Snapshots>(
     }
     match write_seal(idle) {
         Ok(()) => Ok(()),
-        Err(_) => Err(CheckpointFault::Sealing),
+        Err(fault) => Err(fault),
     }
 }

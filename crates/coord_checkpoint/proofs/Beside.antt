@@ -14,7 +14,7 @@ use Rattle.gate_journal.specs.Spares.{HasFrames}
 use Rattle.checkpoint_journal.specs.Generations.{IsBeaten, IsPlain, IsWhole, mark_of}
 use Rattle.checkpoint_journal.specs.Spares.{IsAside}
 use Rattle.checkpoint_journal.proofs.Marks.{one_more}
-use Rattle.coord_checkpoint.specs.Disks.{HasFailed}
+use Rattle.coord_checkpoint.specs.Disks.{HasFailed, RoseTwice}
 use Rattle.coord_checkpoint.specs.Stores.{AreSides, IsLeftWithin, Keeps, MaySeal, StoreParts}
 use Rattle.coord_checkpoint.specs.Steps.{IsPreparing, IsReady, IsSameTurn, IsTried, StaysReady, placed}
 use Rattle.coord_checkpoint.specs.Writes.{Adds, IsQuietBut, MayCheckpoint, Stays, Writes}
@@ -173,7 +173,8 @@ module _ {D : Type 0} (seen : D → DiskView)
 
   -- ---- where nothing is written
 
-  module _ (writes : 2 ^ 62 < live.end + len → ⊥) (failed : HasFailed seen idle.disk last.disk) (sealing_is : next.sealing ≡ true) where
+  module _ (writes : 2 ^ 62 < live.end + len → ⊥) (failed : HasFailed seen idle.disk last.disk) (sealing_is : next.sealing ≡ true)
+      (twice : turn.sealing ≡ false → RoseTwice (seen idle.disk).faults (seen last.disk).faults) where
     never : (end : ℕ) → ◌≡◌ {A = Result ℕ StoreFault} (Err Device) (Err (Full end)) → ⊥
     never end is = absurd cc
 
@@ -185,7 +186,7 @@ module _ {D : Type 0} (seen : D → DiskView)
         exact = λ frames sealing pending was end. (λ is. absurd (never end is), λ is. absurd (writes (let over = is.1 in omega (arith, over, was_end))));
         same = λ frames sealing pending was end is. absurd (never end is);
       };
-      device = λ is. refuses_idle seen live idle live last turn next turn.on_second refl failed (inr sealing_is);
+      device = λ is. refuses_idle seen live idle live last turn next turn.on_second refl failed (inr (sealing_is, twice));
       quiet = tt;
       turned = on_second_of turn.on_second live last next ∙ (same.on_second ∙ sym (on_second_of turn.on_second live idle turn));
       any_moment = λ frames sealing pending was.

@@ -17,7 +17,7 @@ use Rattle.checkpoint_journal.specs.Checkpoints.{IsCheckpoint}
 use Rattle.checkpoint_journal.specs.Generations.{IsBeaten, IsPlain, IsWhole, head_frame, mark_of, seal_frame}
 use Rattle.checkpoint_journal.specs.Spares.{IsAside}
 use Rattle.checkpoint_journal.proofs.Marks.{made, one_more}
-use Rattle.coord_checkpoint.specs.Disks.{HasFailed}
+use Rattle.coord_checkpoint.specs.Disks.{HasFailed, RoseTwice}
 use Rattle.coord_checkpoint.specs.Stores.{AreSides, IsDue, IsLeftWithin, Keeps, StoreParts}
 use Rattle.coord_checkpoint.specs.Steps.{HasCheckpoint, IsNextTurn, IsPreparing, IsReady, IsTried, placed}
 use Rattle.coord_checkpoint.specs.Writes.{Adds, IsQuietBut, MayCheckpoint, RefusesDevice, Stays, Writes, side}
@@ -72,12 +72,17 @@ module _ {D : Type 0} (seen : D → DiskView) (live idle live_new idle_new : Wri
   refuses_live true e h = inl (subst (λ (t : Bool). HasFailed seen (if t then live.disk else idle.disk) (if t then live_new.disk else idle_new.disk)) (sym e) h)
   refuses_live false e h = inl (subst (λ (t : Bool). HasFailed seen (if t then idle.disk else live.disk) (if t then idle_new.disk else live_new.disk)) (sym e) h)
 
-  pub refuses_idle : (b : Bool) → turn.on_second ≡ b → HasFailed seen idle.disk idle_new.disk → (next.on_second ≢ turn.on_second) ⊎ (next.sealing ≡ true)
+  abbrev Refused : D → D → Type 0
+  Refused was is = HasFailed seen was is
+      × ((next.on_second ≢ turn.on_second) ⊎ ((next.sealing ≡ true) × (turn.sealing ≡ false → RoseTwice (seen was).faults (seen is).faults)))
+
+  pub refuses_idle : (b : Bool) → turn.on_second ≡ b → HasFailed seen idle.disk idle_new.disk
+      → (next.on_second ≢ turn.on_second) ⊎ ((next.sealing ≡ true) × (turn.sealing ≡ false → RoseTwice (seen idle.disk).faults (seen idle_new.disk).faults))
       → RefusesDevice seen (Old b) (New b)
   refuses_idle true e h why =
-      inr (subst (λ (t : Bool). HasFailed seen (if not t then live.disk else idle.disk) (if not t then live_new.disk else idle_new.disk)) (sym e) h, why)
+      inr (subst (λ (t : Bool). Refused (if not t then live.disk else idle.disk) (if not t then live_new.disk else idle_new.disk)) (sym e) (h, why))
   refuses_idle false e h why =
-      inr (subst (λ (t : Bool). HasFailed seen (if not t then idle.disk else live.disk) (if not t then idle_new.disk else live_new.disk)) (sym e) h, why)
+      inr (subst (λ (t : Bool). Refused (if not t then idle.disk else live.disk) (if not t then idle_new.disk else live_new.disk)) (sym e) (h, why))
 
   pub quiet_both : (b : Bool) (checkpoint : Type 0) → IsQuiet seen live.disk live_new.disk → IsQuiet seen idle.disk idle_new.disk
       → IsQuietBut seen checkpoint (Old b) (New b)

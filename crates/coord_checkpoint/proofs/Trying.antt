@@ -1,5 +1,5 @@
 -- A checkpoint that is tried, and the gate that is closed behind one that failed.
-use Rattle.std.proofs.Common.{◌≡◌, ◌⊎◌, inl, inr, ⊎_elim, refl, sym, ◌∙◌, subst, ℕ, ◌+◌, ◌<◌, ◌^◌, Bool, true, false, List, [], length, Option, Some, None, Result, Ok, Err}
+use Rattle.std.proofs.Common.{◌≡◌, ◌⊎◌, inl, inr, ⊎_elim, refl, sym, ◌∙◌, subst, ℕ, ◌+◌, ◌<◌, ◌^◌, Bool, true, false, List, [], length, Option, Some, None, Result, Ok, Err, OnErr}
 use Rattle.std.specs.Result.{IsErrAnd, IsOk}
 use Rattle.edge_io.specs.Moments.{LeavesOnly}
 use Rattle.edge_io.specs.Views.{DiskView}
@@ -31,6 +31,10 @@ none_some x e = absurd cc
 pub not_ok : {T E : Type 0} (r : Result T E) (P : E → Type 0) → IsErrAnd r P → IsOk r → ⊥
 not_ok (Ok x) P h o = h
 not_ok (Err e) P h o = no_flag (sym o)
+
+pub on_err : {T E P : Type 0} (r : Result T E) → P → OnErr r P
+on_err (Ok x) p = tt
+on_err (Err e) p = p
 
 pub ok_is : {T E : Type 0} (r : Result T E) {x : T} → r ≡ Ok x → IsOk r
 ok_is {T} {E} r is = subst (λ (q : Result T E). IsOk q) (sym is) refl

@@ -10,7 +10,7 @@ use Rattle.edge_io.specs.Views.{DiskView}
 use Rattle.gate_journal.specs.Journals.{IsQuiet}
 use Rattle.share_model.specs.declared.fault.StoreFault.{StoreFault}
 use Rattle.share_model.specs.declared.fault.StoreFault.TheVariants.{Device, Full}
-use Rattle.coord_checkpoint.specs.Disks.{HasFailed}
+use Rattle.coord_checkpoint.specs.Disks.{HasFailed, RoseTwice}
 use Rattle.coord_checkpoint.specs.Stores.{Finds, IsBase, IsDue, IsLeft, IsLeftWithin, Keeps, MayMake, MaySeal, StoreParts, idle_side, live_side}
 use Rattle.checkpoint_journal.specs.Checkpoints.{IsCheckpoint}
 use Rattle.checkpoint_journal.specs.Making.{HasStopped}
@@ -48,10 +48,12 @@ abbrev pub side : {D : Type 0} → Bool → StoreParts D → D
 side on_second store = if on_second then store.second.disk else store.first.disk
 
 -- A device refuses a write only where a call failed on the disk that was live; or on the other one, where that has become live, or
--- where a seal may still land there and its gate couldn't be closed. So a checkpoint that fails before its seal refuses nothing.
+-- where a seal may still land there and its gate couldn't be closed. So a checkpoint that fails before its seal refuses nothing; and where
+-- it is this write's seal, two calls failed: one of the seal, and one of the closing of the gate.
 abbrev pub RefusesDevice : {D : Type 0} → (D → DiskView) → StoreParts D → StoreParts D → Type 0
 RefusesDevice seen old new = HasFailed seen (side old.on_second old) (side old.on_second new)
-    ⊎ (HasFailed seen (side (not old.on_second) old) (side (not old.on_second) new) × ((new.on_second ≢ old.on_second) ⊎ (new.sealing ≡ true)))
+    ⊎ (HasFailed seen (side (not old.on_second) old) (side (not old.on_second) new) × ((new.on_second ≢ old.on_second) ⊎ ((new.sealing ≡ true)
+    × (old.sealing ≡ false → RoseTwice (seen (side (not old.on_second) old)).faults (seen (side (not old.on_second) new)).faults))))
 
 -- calls for a checkpoint may be made: one is due, or the seal of one may still land
 abbrev pub MayCheckpoint : {D : Type 0} → StoreParts D → List (List ℕ) → Type 0

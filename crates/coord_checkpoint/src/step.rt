@@ -2,6 +2,7 @@
 ghost use Rattle.std.specs.Prelude.{◌≡◌, ◌≢◌, ◌⊎◌, ◌↔◌, ◌+◌, ◌*◌, ◌<◌, ◌≤◌, ◌^◌, ◌&&◌, ◌||◌, not, nat_lt, [], List, ℕ, true, false, length, Some, None, IfOk, OnErr, Ok, IsOk, MatchOption};
 ghost use Rattle.std.specs.declared.option.Option.{Option};
 ghost use Rattle.edge_io.specs.Armed.{RunsOn};
+ghost use Rattle.edge_io.specs.Causes.{Rose};
 ghost use Rattle.edge_io.specs.Moments.{LeavesOnly};
 ghost use Rattle.gate_journal.specs.Frames.{IsFrame, frame_in};
 ghost use Rattle.gate_journal.specs.Journals.{IsQuiet};
@@ -9,7 +10,7 @@ ghost use Rattle.gate_journal.specs.Spares.{HasFrames};
 ghost use Rattle.checkpoint_journal.specs.Generations.{IsBeaten, IsPlain, live_of, mark_of};
 ghost use Rattle.checkpoint_journal.specs.Spares.{IsIdle};
 ghost use Rattle.checkpoint_journal.specs.Standings.{StandsSo};
-ghost use Rattle.coord_checkpoint.specs.Disks.{HasFailed};
+ghost use Rattle.coord_checkpoint.specs.Disks.{HasFailed, RoseTwice};
 ghost use Rattle.coord_checkpoint.specs.Steps.{HasCheckpoint, HasTried, IsDueAt, IsNextTurn, IsPreparing, IsReady, IsSameTurn, IsTurn, StaysReady, placed};
 ghost use Rattle.coord_checkpoint.specs.Writes.{StaysOn, Tries, Writes};
 
@@ -110,6 +111,7 @@ fn try_checkpoint<D: Disk, S: Snapshots>(
     ensures few { result ≡ true → length (S.rest snapshots.old) < 2 ^ 35 }
     ensures may { result ≡ true → IsDueAt turn.old frames (length (S.rest snapshots.old)) }
     ensures quiet { result ≡ true → IsQuiet D.seen idle.old.disk idle.new.disk }
+    ensures sealing { turn.new.sealing ≡ true → turn.old.sealing ≡ false → Rose (D.seen idle.old.disk).faults (D.seen idle.new.disk).faults }
     ensures tried { result ≡ false → HasTried D.seen idle.old idle.new turn.old turn.new frames (length (S.rest snapshots.old)) }
     ensures runs { RunsOn D.seen idle.old.disk idle.new.disk }
 {
@@ -150,6 +152,7 @@ fn close_before<D: Disk>(writes: bool, idle: &mut Journal<D>, turn: &mut Turn) -
     ensures same { ((idle.new ≡ idle.old) × (turn.new ≡ turn.old)) ⊎ ((turn.old.sealing ≡ true) × (writes ≡ true)) }
     ensures runs { RunsOn D.seen idle.old.disk idle.new.disk }
     ensures cause { OnErr result (HasFailed D.seen idle.old.disk idle.new.disk) }
+    ensures sealing { OnErr result (turn.old.sealing ≡ true) }
 {
     if turn.sealing && writes {
         close_idle(idle)?;
@@ -175,6 +178,7 @@ fn prepare<D: Disk, S: Snapshots>(
     ensures beside { result ≢ Ok true → IsSameTurn turn.old turn.new × ((sealing : Option (List (List ℕ))) → IsReady D.seen idle.old turn.old sealing →
         StaysReady D.seen idle.new turn.old turn.new sealing (S.rest snapshots.old) (IsOk result × (writes ≡ true))) }
     ensures failed { OnErr result (HasFailed D.seen idle.old.disk idle.new.disk × (turn.new.sealing ≡ true) × (writes ≡ true)) }
+    ensures closes { OnErr result (turn.old.sealing ≡ false → RoseTwice (D.seen idle.old.disk).faults (D.seen idle.new.disk).faults) }
     ensures any_moment { (sealing : Option (List (List ℕ))) → IsReady D.seen idle.old turn.old sealing →
         LeavesOnly D.seen idle.old.disk idle.new.disk (HasFrames (IsPreparing turn.old sealing (S.rest snapshots.old))) }
     ensures same { ((idle.new ≡ idle.old) × (turn.new ≡ turn.old))

@@ -7,7 +7,7 @@ use Rattle.checkpoint_journal.specs.Checkpoints.{IsUnfinished}
 use Rattle.checkpoint_journal.specs.Generations.{head_frame, seal_frame}
 use Rattle.checkpoint_journal.specs.Making.{IsMaking}
 use Rattle.checkpoint_journal.specs.Spares.{IsIdle}
-use Rattle.checkpoint_journal.proofs.Writing.{idle_making, seal_fails, sealed_making, unfinished_making, unsealed_beside}
+use Rattle.checkpoint_journal.proofs.Writing.{err_same, idle_making, seal_rose, seal_stops, seal_unmade, sealed_making, unfinished_making, unsealed_beside}
 use Rattle.checkpoint_journal.proofs.Stopping.{full_halts, some_quiet, some_then, stopped}
 use Rattle.checkpoint_journal.proofs.making.write_checkpoint.Goals as goal
 
@@ -58,13 +58,17 @@ pub returns-in-Ok-clause-runs : goal.returns-in-Ok-clause-runs
 returns-in-Ok-clause-runs g c = runs_then g.D.Disk.seen _ _ _ (runs_then g.D.Disk.seen _ _ _ c.erase.ensures.runs c.write_unsealed.ensures.runs) c.write_seal.ensures.runs
 
 pub returns-in-Err-write_seal-clause-failed : goal.returns-in-Err-write_seal-clause-failed
-returns-in-Err-write_seal-clause-failed g c = λ on_second live sealing b. (
-  c.in_default-write_unsealed.ensures.all,
-  seal_fails on_second live sealing b.none c.args.generation (omega (arith, c.ranges.generation.fits)) (g.S.Snapshots.rest c.args.snapshots.now)
-      c.in_default-write_unsealed.ensures.all g.D.Disk.seen c.write_seal.new.idle
-      (c.in-Err-write_seal.ensures.failed (head_frame c.args.generation ∷ g.S.Snapshots.rest c.args.snapshots.now)
-      (c.in_default-write_unsealed.ensures.ok (c.in_default.ensures.ok on_second live sealing b))),
-)
+returns-in-Err-write_seal-clause-failed g c = λ on_second live sealing b.
+    seal_unmade on_second live sealing b.none c.args.generation (omega (arith, c.ranges.generation.fits)) (g.S.Snapshots.rest c.args.snapshots.now)
+    g.D.Disk.seen c.write_unsealed.new.idle c.write_seal.new.idle c.in-Err-write_seal.fault c.in_default-write_unsealed.ensures.all
+    (c.in_default-write_unsealed.ensures.ok (c.in_default.ensures.ok on_second live sealing b)) c.in-Err-write_seal.ensures.failed
+
+pub returns-in-Err-write_seal-clause-seals : goal.returns-in-Err-write_seal-clause-seals
+returns-in-Err-write_seal-clause-seals g c = λ is.
+    let rose = seal_rose g.D.Disk.seen c.write_unsealed.new.idle c.write_seal.new.idle c.in-Err-write_seal.fault c.in-Err-write_seal.ensures.failed (err_same _ _ is) in
+    let one = c.erase.ensures.runs.later in
+    let two = c.write_unsealed.ensures.runs.later in
+    omega (arith, one, two, rose)
 
 pub returns-in-Err-write_seal-clause-any_moment : goal.returns-in-Err-write_seal-clause-any_moment
 returns-in-Err-write_seal-clause-any_moment g c = λ on_second live sealing b.
@@ -104,7 +108,7 @@ pub returns-in-Err-write_seal-clause-stops : goal.returns-in-Err-write_seal-clau
 returns-in-Err-write_seal-clause-stops g c = λ on_second live sealing b.
     stopped g.D.Disk.seen c.args.idle.now c.erase.new.idle c.write_seal.new.idle c.args.generation c.erase.ensures.runs c.in_default.ensures.calls
     (full_halts g.D.Disk.seen c.erase.new.idle c.write_unsealed.new.idle c.write_seal.new.idle c.args.generation c.write_unsealed.ensures.runs
-    c.in-Err-write_seal.ensures.stops (inr (
+    (seal_stops g.D.Disk.seen c.write_unsealed.new.idle c.write_seal.new.idle c.in-Err-write_seal.fault c.in-Err-write_seal.ensures.failed) (inr (
       c.in_default-write_unsealed.ensures.calls,
       head_frame c.args.generation ∷ g.S.Snapshots.rest c.args.snapshots.now,
       inr (g.S.Snapshots.rest c.args.snapshots.now, refl),

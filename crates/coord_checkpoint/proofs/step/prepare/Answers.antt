@@ -1,4 +1,5 @@
-use Rattle.coord_checkpoint.proofs.Trying.{no_flags, not_ok, preparing_stays, same_turn, stays_as, stays_ready, then_moments, then_ready, then_turn}
+use Rattle.std.proofs.Common.{arith}
+use Rattle.coord_checkpoint.proofs.Trying.{no_flags, not_ok, on_err, preparing_stays, same_turn, stays_as, stays_ready, then_moments, then_ready, then_turn}
 use Rattle.coord_checkpoint.proofs.step.prepare.Goals as goal
 
 pub returns-in_err-close_before-clause-beside : goal.returns-in_err-close_before-clause-beside
@@ -41,3 +42,9 @@ returns-then-not-writes-clause-beside g c = λ _. (
 pub returns-then-not-writes-clause-any_moment : goal.returns-then-not-writes-clause-any_moment
 returns-then-not-writes-clause-any_moment g c = λ sealing r.
     preparing_stays g.D.Disk.seen g.met.D.Disk.only_now c.args.idle.now c.args.turn.now (g.S.Snapshots.rest c.args.snapshots.now) sealing r
+
+pub returns-in_err-close_before-clause-closes : goal.returns-in_err-close_before-clause-closes
+returns-in_err-close_before-clause-closes g c = on_err c.from_residual.result (λ low.
+    let seal = c.try_checkpoint.ensures.sealing c.in_err-close_before.ensures.sealing low in
+    let gate = c.in_err-close_before.ensures.cause.0 in
+    omega (arith, seal, gate))

@@ -64,4 +64,4 @@ returns-in-Err g c =
     (g.S.Snapshots.rest c.args.snapshots.now) (frame_in c.args.buffer.now) (frame_in c.args.fresh.now) (length c.args.buffer.now) 0
     (IsOk c.prepare.result × (c.has_room-writes.result ≡ true)) b.0 b.1 c.prepare.ensures.any_moment c.prepare.ensures.runs c.requires.frame.1
     (buffer_len c.args.buffer.now c.requires.frame.0)
-    (λ (lt : 2 ^ 62 < c.args.live.now.end + length c.args.buffer.now). omega (arith, room, c.last_gate.ensures.end, lt)) f.0 f.1
+    (λ (lt : 2 ^ 62 < c.args.live.now.end + length c.args.buffer.now). omega (arith, room, c.last_gate.ensures.end, lt)) f.0 f.1 c.in-Err.ensures.closes

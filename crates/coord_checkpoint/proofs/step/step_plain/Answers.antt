@@ -7,7 +7,7 @@ use Rattle.coord_checkpoint.proofs.Alone.{stays_on}
 use Rattle.coord_checkpoint.proofs.Beside.{beside_writes, gate_fails}
 use Rattle.coord_checkpoint.proofs.Ends.{buffer_len, shut_by}
 use Rattle.coord_checkpoint.proofs.Made.{calls_quiet}
-use Rattle.coord_checkpoint.proofs.Trying.{ok_is, preparing_stays, same_turn, stays_ready, then_moments, then_ready, then_turn}
+use Rattle.coord_checkpoint.proofs.Trying.{no_flags, ok_is, preparing_stays, same_turn, stays_ready, then_moments, then_ready, then_turn}
 use Rattle.coord_checkpoint.proofs.step.step_plain.Goals as goal
 
 pub returns-in-Err-clause-writes : goal.returns-in-Err-clause-writes
@@ -26,6 +26,7 @@ returns-in-Err-clause-writes g c = λ fresh snapshots.
     (preparing_stays g.D.Disk.seen g.met.D.Disk.only_now c.args.idle.now c.args.turn.now snapshots sealing r) (c.close_before.ensures.any_moment _ (stays_ready g.D.Disk.seen g.met.D.Disk.only_now c.args.idle.now c.args.turn.now snapshots sealing r).ready))
     c.close_before.ensures.runs c.requires.frame.1 (buffer_len c.args.buffer.now c.requires.frame.0)
     (λ (lt : 2 ^ 62 < c.args.live.now.end + length c.args.buffer.now). omega (arith, room, c.last_gate.ensures.end, lt)) c.in-Err.ensures.cause f.0
+    (λ low. absurd (no_flags c.args.turn.now.sealing low c.in-Err.ensures.sealing))
 
 pub returns-clause-writes : goal.returns-clause-writes
 returns-clause-writes g c = λ fresh snapshots.

@@ -1,4 +1,4 @@
-use Rattle.std.proofs.Common.{◌+◌, ◌<◌, ◌^◌, ℕ, inl, inr, length, refl, sym, subst, arith}
+use Rattle.std.proofs.Common.{◌∙◌, ap, false, Err, ◌+◌, ◌<◌, ◌^◌, ℕ, inl, inr, length, refl, sym, subst, arith}
 use Rattle.checkpoint_journal.specs.Making.{IsUnmade}
 use Rattle.checkpoint_journal.specs.declared.making.CheckpointFault.{CheckpointFault}
 use Rattle.coord_checkpoint.specs.Steps.{IsDueAt}
@@ -139,3 +139,19 @@ returns-in-Err-Sealing-clause-tried g c =
       subst (λ (n : ℕ). IsDueAt c.args.turn.now c.args.frames n) c.count.ensures (c.is_timely.ensures.exact.0 c.if-not-is_timely.false),
       λ sealing r. c.in-Err-Sealing.ensures.stops _ _ sealing (beside_by g.D.Disk.seen c.args.idle.now c.write_checkpoint.new.idle c.args.turn.now (g.S.Snapshots.rest c.args.snapshots.now) clears few fits sealing r),
     )
+
+pub returns-in-Ok-clause-sealing : goal.returns-in-Ok-clause-sealing
+returns-in-Ok-clause-sealing g c = λ is low. absurd (no_flags false refl is)
+
+pub returns-then-not-is_timely-clause-sealing : goal.returns-then-not-is_timely-clause-sealing
+returns-then-not-is_timely-clause-sealing g c = λ is low. absurd (no_flags c.args.turn.now.sealing low is)
+
+pub returns-in-Err-Uncleared-clause-sealing : goal.returns-in-Err-Uncleared-clause-sealing
+returns-in-Err-Uncleared-clause-sealing g c = λ is low. absurd (no_flags c.args.turn.now.sealing low is)
+
+pub returns-in-Err-Unsealed-clause-sealing : goal.returns-in-Err-Unsealed-clause-sealing
+returns-in-Err-Unsealed-clause-sealing g c = λ is low. absurd (no_flags false refl is)
+
+pub returns-in-Err-Sealing-clause-sealing : goal.returns-in-Err-Sealing-clause-sealing
+returns-in-Err-Sealing-clause-sealing g c = λ is low.
+    c.write_checkpoint.ensures.seals (c.in-Err-Sealing.is ∙ ap (λ (e : CheckpointFault). Err e) c.in-Err-Sealing.field-0-is)
