@@ -1,9 +1,8 @@
 -- A checkpoint that was begun and not made: the calls that it made, and how far it came.
-use Rattle.std.proofs.Common.{◌≡◌, ◌⊎◌, inl, inr, ⊎_elim, refl, sym, ap, ◌∙◌, subst, arith, ℕ, ◌<◌, ◌+◌, List, [], ◌∷◌, Result, Ok, Err, OnErr, OnOk}
+use Rattle.std.proofs.Common.{◌≡◌, ◌⊎◌, inl, inr, ⊎_elim, refl, sym, ◌∙◌, subst, arith, ℕ, ◌<◌, ◌+◌, List, [], Result, Ok, Err, OnErr, OnOk}
 use mathlib.Core.Logic.{dite}
 use native.Mathlib.Decide.{ℕ_discrete}
 use Rattle.edge_io.specs.Armed.{RunsOn}
-use Rattle.edge_io.specs.Causes.{Rose}
 use Rattle.edge_io.specs.Counting.{DoesCalls, MakesCalls}
 use Rattle.edge_io.specs.Views.{DiskView}
 use Rattle.edge_io.proofs.Counting.{calls_none, does_then}

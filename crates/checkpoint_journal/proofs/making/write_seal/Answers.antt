@@ -1,5 +1,4 @@
-use Rattle.std.proofs.Common.{◌⊎◌, List, ℕ, None, OnOk, Result, Some, subst}
-use Rattle.gate_journal.specs.Journals.{Stands}
+use Rattle.std.proofs.Common.{ℕ, OnOk, Result, subst}
 use Rattle.share_model.specs.declared.fault.StoreFault.{StoreFault}
 use Rattle.checkpoint_journal.specs.Making.{DoesSome}
 use Rattle.checkpoint_journal.proofs.Stopping.{append_does}

@@ -1,5 +1,4 @@
 use Rattle.std.proofs.Common.{◌≡◌, ◌≤◌, ◌+◌, ◌^◌, ℕ, arith, length, subst, true, false}
-use Rattle.gate_journal.specs.Journals.{IsQuiet}
 use Rattle.coord_checkpoint.specs.Steps.{HasTried, IsDueAt, placed}
 use Rattle.coord_checkpoint.proofs.Alone.{no_room, tried_alone, untried}
 use Rattle.coord_checkpoint.proofs.Trying.{no_flags}
