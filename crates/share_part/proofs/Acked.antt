@@ -100,7 +100,7 @@ module _ (conf : PartConfParts) (told : Bool) (rose : Type 0) (end : ℕ) (old :
 none_some : (o : Option AckKind) → o ≡ None → IsSome {T = AckKind} o → ⊥
 none_some o is some = let clash : IsSome {T = AckKind} None = subst (λ (o : Option AckKind). IsSome {T = AckKind} o) is some in let never : ⊥ = cc in never
 
-module _ {D W : Type 0} (seen : D → DiskView) (holding : W → Held) (visit : Visit) (old : PartParts D W) (states : StoreParts D)
+module _ {D W : Type 0} (tries : Bool) (seen : D → DiskView) (holding : W → Held) (visit : Visit) (old : PartParts D W) (states : StoreParts D)
     (windows : List (List ℕ × W)) (sound : IsStoredLog old.log.batches) (few : old.conf.limit ≤ 10)
     (hosted : AreHosted old.conf (log_in old.log) (states_of old.states.entries))
     (kept : AreKept old.conf old.log.batches (states_of old.states.entries) (held_in holding old.windows)) where
@@ -111,7 +111,7 @@ module _ {D W : Type 0} (seen : D → DiskView) (holding : W → Held) (visit : 
   was = held_in holding old.windows visit.group
 
   abbrev pub mid : PartParts D W
-  mid = behind seen holding visit.group acts old states windows old.clock sound few hosted kept
+  mid = behind tries seen holding visit.group acts old states windows old.clock sound few hosted kept
 
   abbrev Rises : Type 0
   Rises = FailuresRose seen old.states states
@@ -126,14 +126,14 @@ module _ {D W : Type 0} (seen : D → DiskView) (holding : W → Held) (visit : 
   Failed = HasFailed seen
 
   abbrev Settles : AckOutcome → Type 0
-  Settles ack = SettlesGroup seen Failed old.conf old.log.batches visit.group visit.member acts was old.states states Same Ends ack
+  Settles ack = SettlesGroup seen Failed old.conf old.log.batches visit.group visit.member acts was tries old.states states Same Ends ack
 
   abbrev pub Acked : AckOutcome → Type 0
   Acked ack = AcksOnce old.log.start visit.acks ((states ≡ old.states) × Same) Settles ack
 
   -- the same by what was held at first
   abbrev SettlesFrom : (List ℕ → Held) → AckOutcome → Type 0
-  SettlesFrom held ack = SettlesGroup seen Failed old.conf old.log.batches visit.group visit.member acts (held visit.group) old.states states
+  SettlesFrom held ack = SettlesGroup seen Failed old.conf old.log.batches visit.group visit.member acts (held visit.group) tries old.states states
       ((other : List ℕ) → held_in holding windows other ≡ held other)
       ((other : List ℕ) → held_in holding windows other ≡ with_held held visit.group (held_after acts (held visit.group)) other) ack
 
@@ -149,12 +149,12 @@ module _ {D W : Type 0} (seen : D → DiskView) (holding : W → Held) (visit : 
   Stands = AreHosted old.conf (log_in old.log) (states_of states.entries) × AreKept old.conf old.log.batches (states_of states.entries) (held_in holding windows)
 
   same_stand : states ≡ old.states → Same → Stands
-  same_stand is same = stands_same seen holding visit.group acts old states windows old.clock sound few hosted kept
+  same_stand is same = stands_same tries seen holding visit.group acts old states windows old.clock sound few hosted kept
       (ap (λ (s : StoreParts D). states_of s.entries) is) same
 
   stored_stand : (fault : Option StoreFault)
-      → StoresGroup seen Failed old.conf old.log.batches visit.group acts was old.states states Same Ends fault → Stands
-  stored_stand fault h = stands_stored seen holding visit.group acts old states windows old.clock sound few hosted kept fault h
+      → StoresGroup seen Failed old.conf old.log.batches visit.group acts was tries old.states states Same Ends fault → Stands
+  stored_stand fault h = stands_stored tries seen holding visit.group acts old states windows old.clock sound few hosted kept fault h
 
   stands_settled : (ack : AckOutcome) → Settles ack → Stands
   stands_settled (NotHeld o) h = same_stand h.1 h.2
@@ -186,15 +186,15 @@ module _ {D W : Type 0} (seen : D → DiskView) (holding : W → Held) (visit : 
       → ((batch : Option LogWrite) (pending : Option Entries) → Acknowledges old.conf Rises old.states.journal.end (shard_of seen holding old batch pending) visit (shard_of seen holding old batch pending) ack)
       → AllSteps ack
   unmoved ack is same does s c =
-      let st = still seen holding visit.group acts old states windows old.clock sound few hosted kept (DoesAcks ack) is same does s c in
+      let st = still tries seen holding visit.group acts old states windows old.clock sound few hosted kept (DoesAcks ack) is same does s c in
       (st.then, st.carries, record { log = st.log; clock = st.clock_is ∙ sym (clock_is s c); does = st.does })
 
   -- the acts are stored, or aren't
   acts_steps : RunOnBoth seen old.states states → (ack : AckOutcome) (fault : Option StoreFault) → IsWellFormed visit.acks → AreHeldBy visit.member acts was
       → ((s t : PartShardState) → s.log.start ≡ old.log.start → AreTheirs s visit → StoresActs old.conf Rises old.states.journal.end s visit.group acts t fault → DoesAcks ack s t)
-      → StoresGroup seen Failed old.conf old.log.batches visit.group acts was old.states states Same Ends fault → AllSteps ack
+      → StoresGroup seen Failed old.conf old.log.batches visit.group acts was tries old.states states Same Ends fault → AllSteps ack
   acts_steps runs ack fault formed theirs does h s c =
-      let st = stored_steps seen holding visit.group acts old states windows old.clock sound few hosted kept runs fault h s c in
+      let st = stored_steps tries seen holding visit.group acts old states windows old.clock sound few hosted kept runs fault h s c in
       let held : AreHeldBy visit.member acts (s.held visit.group) = subst (AreHeldBy visit.member acts) (sym (c.held visit.group)) theirs in
       let named : AreHeldBy visit.member (named_from s.log.start visit.acks) (s.held visit.group) =
       subst (λ (n : ℕ). AreHeldBy visit.member (named_from n visit.acks) (s.held visit.group)) (sym c.log.start) held in
@@ -263,7 +263,7 @@ module _ {D W : Type 0} (seen : D → DiskView) (holding : W → Held) (visit : 
   device_settled (NotHeld o) h is = absurd (let clash : ⊥ = cc in clash)
   device_settled (Malformed f) h is = absurd h
   device_settled Done h is = absurd (let clash : ⊥ = cc in clash)
-  device_settled (Store fault) h is = stored_device seen holding visit.group acts old states windows old.clock sound few hosted kept (Some fault) h.1
+  device_settled (Store fault) h is = stored_device tries seen holding visit.group acts old states windows old.clock sound few hosted kept (Some fault) h.1
       (ap (λ (f : StoreFault). Some f) (let same : fault ≡ Device = cc in same))
 
   pub device_sound : (ack : AckOutcome) → Acked ack → ack ≡ Store Device → Starves
@@ -281,7 +281,7 @@ module _ {D W : Type 0} (seen : D → DiskView) (holding : W → Held) (visit : 
   quiet_settled : (ack : AckOutcome) → Settles ack → ((fault : StoreFault) → ack ≢ Store fault) → Quiet
   quiet_settled (NotHeld o) h none = still_quiet h.1
   quiet_settled (Malformed f) h none = absurd h
-  quiet_settled Done h none = stored_quiet seen holding visit.group acts old states windows old.clock sound few hosted kept h.1
+  quiet_settled Done h none = stored_quiet tries seen holding visit.group acts old states windows old.clock sound few hosted kept h.1
   quiet_settled (Store fault) h none = absurd (none fault refl)
 
   pub quiet_acked : (ack : AckOutcome) → Acked ack → ((fault : StoreFault) → ack ≢ Store fault) → Quiet
@@ -291,11 +291,11 @@ module _ {D W : Type 0} (seen : D → DiskView) (holding : W → Held) (visit : 
 
   -- which record is stored
   abbrev Writes : AckOutcome → Type 0
-  Writes ack = WritesAcks seen old.conf (log_in old.log) visit was old.states states ack
+  Writes ack = WritesAcks seen old.conf (log_in old.log) visit was tries old.states states ack
 
-  writes_stored : (fault : Option StoreFault) → StoresGroup seen Failed old.conf old.log.batches visit.group acts was old.states states Same Ends fault
-      → WritesActs seen old.conf old.log.batches visit.group acts was old.states states fault
-  writes_stored fault h = stored_writes seen holding visit.group acts old states windows old.clock sound few hosted kept fault h
+  writes_stored : (fault : Option StoreFault) → StoresGroup seen Failed old.conf old.log.batches visit.group acts was tries old.states states Same Ends fault
+      → WritesActs seen old.conf old.log.batches visit.group acts was tries old.states states fault
+  writes_stored fault h = stored_writes tries seen holding visit.group acts old states windows old.clock sound few hosted kept fault h
 
   writes_settled : (ack : AckOutcome) → Settles ack → Writes ack
   writes_settled (NotHeld o) h = h.1
@@ -466,7 +466,7 @@ module _ {D W : Type 0} (seen : D → DiskView) (holding : W → Held) (visit : 
         stays first.0 first.1 (nothing_so s first.0 (acks_still ack s first.0 first.2.does nothing) visit.then behind) ∙ unwritten ack acked s c nothing
 
     pub visited : (inner : VisitAnswer) (done : Result VisitAnswer want) → done ≡ Ok inner → FollowsOnce seen holding now visit mid new done
-        → VisitsOnce seen holding now visit old new (Ok (with_ack ack inner))
+        → VisitsOnce seen holding now tries visit old new (Ok (with_ack ack inner))
     visited inner done is once =
         let o = subst (FollowsOnce seen holding now visit mid new) is once in
         record {
@@ -510,7 +510,7 @@ module _ {D W : Type 0} (seen : D → DiskView) (holding : W → Held) (visit : 
 
     -- no memory was found behind them, where they were not written
     pub unfollowed : (e : want) (done : Result VisitAnswer want) → done ≡ Err e
-        → FollowsOnce seen holding now visit mid new done → (AreWritten old.log.start visit ack → ⊥) → (f : want) → VisitsOnce seen holding now visit old new (Err f)
+        → FollowsOnce seen holding now visit mid new done → (AreWritten old.log.start visit ack → ⊥) → (f : want) → VisitsOnce seen holding now tries visit old new (Err f)
     unfollowed e done is once none f =
         let o = subst (FollowsOnce seen holding now visit mid new) is once in
         let b = back ack acked none in

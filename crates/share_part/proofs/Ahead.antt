@@ -102,16 +102,16 @@ module _ {D W : Type 0} (seen : D → DiskView) (holding : W → Held) (visit : 
       (subst (λ (s : ShareState). IsPlanOf old.log.batches stays (acquired old.log.batches (table_of s was) limits)) at first)))
 
   abbrev Stored : Type 0
-  Stored = IsActsStored seen (HasFailed seen) old.conf old.log.batches visit.group (named_from old.log.start visit.acks) was old.states states None
+  Stored = IsActsStored seen (HasFailed seen) old.conf old.log.batches visit.group (named_from old.log.start visit.acks) was true old.states states None
 
   -- a change was
   goes_moved : (st : Stored) (change : Change) (plan : Plan) → (found : (state : ShareState) × (share_state_at (states_of old.states.entries) key ≡ Some state)
       × IsChange old.conf.limit (named_from old.log.start visit.acks) old.log.batches (table_of state was) change)
       → IsPlanBehind old.conf.limit (named_from old.log.start visit.acks) old.log.batches First change limits plan → now ≡ held_after (named_from old.log.start visit.acks) was → GoesBy plan
   goes_moved st change plan found behind held =
-      let next = its_next seen holding visit.group (named_from old.log.start visit.acks) old states windows old.clock sound few hosted kept None st states.entries st.once.written in
-      let settled = its_settled seen holding visit.group (named_from old.log.start visit.acks) old states windows old.clock sound few hosted kept None st states.entries st.once.written in
-      let is = its_states seen holding visit.group (named_from old.log.start visit.acks) old states windows old.clock sound few hosted kept None st states.entries st.once.written in
+      let next = its_next true seen holding visit.group (named_from old.log.start visit.acks) old states windows old.clock sound few hosted kept None st states.entries st.once.written in
+      let settled = its_settled true seen holding visit.group (named_from old.log.start visit.acks) old states windows old.clock sound few hosted kept None st states.entries st.once.written in
+      let is = its_states true seen holding visit.group (named_from old.log.start visit.acks) old states windows old.clock sound few hosted kept None st states.entries st.once.written in
       let first : First ≡ table_of st.state was = ap (λ (o : Option ShareState). table_of (unwrap_or o (new_state old.conf (log_in old.log))) was) st.known in
       let other : First ≡ table_of found.0 was = ap (λ (o : Option ShareState). table_of (unwrap_or o (new_state old.conf (log_in old.log))) was) found.1 in
       let change_is = subst (λ (t : Table). IsChange old.conf.limit (named_from old.log.start visit.acks) old.log.batches t change) (sym other) found.2 in
@@ -132,7 +132,7 @@ module _ {D W : Type 0} (seen : D → DiskView) (holding : W → Held) (visit : 
     none_moves (malformed f) m j is none = is
     none_moves Empty m j is none = is
     none_moves (not_held o) m j is none = is
-    none_moves (Changes moved) m j is none = absurd (none_named seen holding visit old states windows sound few hosted kept none j.1)
+    none_moves (Changes moved) m j is none = absurd (none_named true seen holding visit old states windows sound few hosted kept none j.1)
 
     not_both : (least : ℕ) → AreHeldBy visit.member (named_from old.log.start visit.acks) was → (a : Acks) → a ≡ not_held least
         → JudgesAcks old.conf.limit old.log.start visit old.log.batches was (share_state_at (states_of old.states.entries) key) rows (not_held least) → ⊥
@@ -142,20 +142,20 @@ module _ {D W : Type 0} (seen : D → DiskView) (holding : W → Held) (visit : 
         → MovesBy old.conf.limit old.log.start visit old.log.batches First limits rows a m → ((fault : AckFault) → a ≡ malformed fault → ⊥) → AreHeldBy visit.member (named_from old.log.start visit.acks) was
         → NameOne (named_from old.log.start visit.acks) → Stored → plan ≡ unwrap_or m stays → now ≡ held_after (named_from old.log.start visit.acks) was → GoesBy plan
     done_moves (malformed f) m j is formed theirs one st at held = absurd (formed f refl)
-    done_moves Empty m j is formed theirs one st at held = absurd (none_named seen holding visit old states windows sound few hosted kept j.1 one)
+    done_moves Empty m j is formed theirs one st at held = absurd (none_named true seen holding visit old states windows sound few hosted kept j.1 one)
     done_moves (not_held o) m j is formed theirs one st at held = absurd (not_both o theirs (not_held o) refl j)
     done_moves (Changes moved) None j is formed theirs one st at held = absurd is
     done_moves (Changes moved) (Some its) j is formed theirs one st at held =
         goes_moved st (change_of moved rows) plan j.3 (subst (IsPlanBehind old.conf.limit (named_from old.log.start visit.acks) old.log.batches First (change_of moved rows) limits) (sym at) is) held
 
-    module _ (ack : AckOutcome) (acked : Acked seen holding visit old states windows sound few hosted kept ack)
+    module _ (ack : AckOutcome) (acked : Acked true seen holding visit old states windows sound few hosted kept ack)
         (formed : (fault : AckFault) → acks ≡ malformed fault → ack ≡ Malformed fault) (done : ack ≡ Done → plan ≡ unwrap_or moves stays)
         (others : (ack ≡ Done → ⊥) → plan ≡ stays) where
       by_none : ack ≡ Done → NameNone (named_from old.log.start visit.acks) → plan ≡ stays
       by_none is none = done is ∙ ap (λ (m : Option Plan). unwrap_or m stays) (none_moves acks moves judged is_moves none)
 
       abbrev Group : AckOutcome → Type 0
-      Group a = SettlesGroup seen (HasFailed seen) old.conf old.log.batches visit.group visit.member (named_from old.log.start visit.acks) was old.states states
+      Group a = SettlesGroup seen (HasFailed seen) old.conf old.log.batches visit.group visit.member (named_from old.log.start visit.acks) was true old.states states
           ((other : List ℕ) → held_in holding windows other ≡ held_in holding old.windows other)
           ((other : List ℕ) → held_in holding windows other ≡ with_held (held_in holding old.windows) visit.group (held_after (named_from old.log.start visit.acks) was) other) a
 
@@ -164,15 +164,15 @@ module _ {D W : Type 0} (seen : D → DiskView) (holding : W → Held) (visit : 
       by_settled (Malformed f) is one g held = absurd g
       by_settled (Store fault) is one g held = goes_still is_stays plan (others (λ e. let never : Store fault ≡ Done = sym is ∙ e in let clash : ⊥ = cc in clash)) g.1.1.once.same (g.1.2 visit.group)
       by_settled Done is one g held = ⊎_elim
-          (λ n. absurd (none_named seen holding visit old states windows sound few hosted kept n.0 one))
+          (λ n. absurd (none_named true seen holding visit old states windows sound few hosted kept n.0 one))
           (λ h. done_moves acks moves judged is_moves (λ f e. let never : Done ≡ Malformed f = sym is ∙ formed f e in let clash : ⊥ = cc in clash) g.0 h.0 h.1 (done is) (held refl))
           g.1
 
-      by_acked : Acked seen holding visit old states windows sound few hosted kept ack → GoesBy plan
+      by_acked : Acked true seen holding visit old states windows sound few hosted kept ack → GoesBy plan
       by_acked (inl m) = goes_still is_stays plan (others (λ e. let never : Malformed m.0 ≡ Done = sym m.1 ∙ e in let clash : ⊥ = cc in clash))
           (ap (λ (s : StoreParts D). states_of s.entries) m.3.0) (m.3.1 visit.group)
       by_acked (inr (inl n)) = goes_still is_stays plan (by_none n.2 n.1) (ap (λ (s : StoreParts D). states_of s.entries) n.3.0) (n.3.1 visit.group)
-      by_acked (inr (inr g)) = by_settled ack refl g.1 g.2 (λ e. holds_acked seen holding visit old states windows sound few hosted kept ack (inr (inr g)) ∙ ap (held_behind old.log.start visit was) e)
+      by_acked (inr (inr g)) = by_settled ack refl g.1 g.2 (λ e. holds_acked true seen holding visit old states windows sound few hosted kept ack (inr (inr g)) ∙ ap (held_behind old.log.start visit was) e)
 
       pub goes_by : GoesBy plan
       goes_by = by_acked acked
@@ -180,7 +180,7 @@ module _ {D W : Type 0} (seen : D → DiskView) (holding : W → Held) (visit : 
 -- no memory was found for it
 pub none_ready : {D W : Type 0} (seen : D → DiskView) (holding : W → Held) (now : ℕ) (visit : Visit) (old : PartParts D W) (windows : List (List ℕ × W))
     → ReadsBatches seen (false ≡ true) old.log old.log → ((group : List ℕ) → held_in holding windows group ≡ held_in holding old.windows group) → (answer : Result VisitAnswer want) → IsErr answer
-    → VisitsOnce seen holding now visit old (record { conf = old.conf; log = old.log; states = old.states; windows = windows; clock = old.clock }) answer
+    → VisitsOnce seen holding now true visit old (record { conf = old.conf; log = old.log; states = old.states; windows = windows; clock = old.clock }) answer
 none_ready seen holding now visit old windows read same (Ok answer) none = absurd (let clash : ⊥ = cc in clash)
 none_ready seen holding now visit old windows read same (Err e) none = record {
   unread = false;

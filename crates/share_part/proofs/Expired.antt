@@ -1,5 +1,5 @@
 -- An expiry of a shard in memory: what holds once some of the due groups are done.
-use Rattle.std.proofs.Common.{◌≡◌, ◌⊎◌, ◌∙◌, inl, inr, refl, sym, ap, subst, arith, ℕ, zero, suc, max, min, ◌+◌, ◌-◌, ◌^◌, ◌<◌, ◌≤◌, List, [], ◌∷◌, ◌++◌, append_assoc, length, drop, get_or, drop-cons, add-one, Option, Some, None, Bool, false}
+use Rattle.std.proofs.Common.{◌≡◌, ◌⊎◌, ◌∙◌, inl, inr, refl, sym, ap, subst, arith, ℕ, zero, suc, max, min, ◌+◌, ◌-◌, ◌^◌, ◌<◌, ◌≤◌, List, [], ◌∷◌, ◌++◌, append_assoc, length, drop, get_or, drop-cons, add-one, Option, Some, None, Bool, true, false}
 use Rattle.std.specs.Prelude.{filter, Result, Ok, Err, IsErr, if◌then◌else◌}
 use Rattle.std.specs.BTreeMap.{is_at}
 use Rattle.std.specs.Cmp.Lexicographic.{slice_cmp}
@@ -154,7 +154,7 @@ module _ {D W : Type 0} (seen : D → DiskView) (holding : W → Held) (now : �
           (λ g there. none_due_of clock (held_in holding entry.windows g) (next.fail g there))
 
       abbrev Acts : PartConfParts → List Batch → Held → Option StoreFault → Type 0
-      Acts conf log held fault = WritesActs seen conf log group (ending clock held) held current.states after.states fault
+      Acts conf log held fault = WritesActs seen conf log group (ending clock held) held true current.states after.states fault
 
       wrote_next : (fault : Option StoreFault) → Acts current.conf current.log.batches (held_in holding current.windows group) fault
           → Acts entry.conf entry.log.batches (held_then group) fault

@@ -47,7 +47,7 @@ module _ (conf : PartConfParts) (rose : Type 0) (end : ℕ) (old new : PartShard
     record {
       states = h.2.states;
       held = h.2.held;
-      pending = ⊎_elim (λ same. inl same) (λ lost. inr (lost.0, lost.1, record { state = lost.2.state; next = lost.2.next; known = lost.2.known; settled = lost.2.settled; is = lost.2.is })) h.2.pending;
+      pending = ⊎_elim (λ same. inl same) (λ other. inr (⊎_elim (λ none. inl none) (λ lost. inr (lost.0, lost.1, record { state = lost.2.state; next = lost.2.next; known = lost.2.known; settled = lost.2.settled; is = lost.2.is })) other)) h.2.pending;
     },
   )
   stores_as (Some (Full at)) h = (
@@ -56,12 +56,13 @@ module _ (conf : PartConfParts) (rose : Type 0) (end : ℕ) (old new : PartShard
     still_as h.2,
     record {
       before = h.3.before;
-      after = h.3.after;
-      frame = h.3.frame;
+      state = h.3.state;
+      change = h.3.change;
+      one = h.3.one;
       is_before = h.3.is_before;
-      is_after = record { state = h.3.is_after.state; next = h.3.is_after.next; known = h.3.is_after.known; settled = h.3.is_after.settled; is = h.3.is_after.is };
-      accepted = h.3.accepted;
-      fits = h.3.fits;
+      known = h.3.known;
+      is_change = h.3.is_change;
+      is_one = h.3.is_one;
       past = h.3.past;
     },
   )
@@ -227,7 +228,7 @@ module _ {D : Type 0} (seen : D → DiskView) (conf : PartConfParts) (log : List
   Wrote groups old new = WritesGroups seen conf log clock held groups old new
 
   abbrev Acted : List ℕ → StoreParts D → StoreParts D → Type 0
-  Acted group old new = WritesActs seen conf log group (ending clock (held group)) (held group) old new None
+  Acted group old new = WritesActs seen conf log group (ending clock (held group)) (held group) true old new None
 
   -- groups of which nothing is due store nothing
   pub wrote_past : (groups passed : List (List ℕ)) (old new : StoreParts D) → Wrote groups old new → ((g : List ℕ) → IsIn passed g → due_count clock (held g) ≡ 0)

@@ -53,18 +53,18 @@ module _ {D W : Type 0} (seen : D → DiskView) (holding : W → Held) (group : 
   then clock = record { conf = old.conf; log = old.log; states = states; windows = windows; clock = clock }
 
   abbrev pub Told : Released → Type 0
-  Told r = Stores seen holding group acts old states windows old.clock sound few hosted kept (fault_in r)
+  Told r = Stores true seen holding group acts old states windows old.clock sound few hosted kept (fault_in r)
 
   pub released_stand : (r : Released) → Told r
       → AreHosted old.conf (log_in old.log) (states_of states.entries) × AreKept old.conf old.log.batches (states_of states.entries) (held_in holding windows)
-  released_stand r h = stands_stored seen holding group acts old states windows old.clock sound few hosted kept (fault_in r) h
+  released_stand r h = stands_stored true seen holding group acts old states windows old.clock sound few hosted kept (fault_in r) h
 
   module _ (runs : RunOnBoth seen old.states states) where
     abbrev Rises : Type 0
     Rises = FailuresRose seen old.states states
 
     quiet_by : (r : Released) → Told r → ((fault : StoreFault) → r ≢ Store fault) → AreQuiet seen old.states states
-    quiet_by (Done count) h none = stored_quiet seen holding group acts old states windows old.clock sound few hosted kept h
+    quiet_by (Done count) h none = stored_quiet true seen holding group acts old states windows old.clock sound few hosted kept h
     quiet_by (Store fault) h none = absurd (none fault refl)
 
     pub released : (clock : ℕ) (r : Released) → Told r → Counts whose was r
@@ -72,7 +72,7 @@ module _ {D W : Type 0} (seen : D → DiskView) (holding : W → Held) (group : 
     released clock r h counts =
         record {
           steps = λ s c.
-              let st = stored_steps seen holding group acts old states windows clock sound few hosted kept runs (fault_in r) h s c in (
+              let st = stored_steps true seen holding group acts old states windows clock sound few hosted kept runs (fault_in r) h s c in (
                 st.then,
                 st.carries,
                 record {
@@ -82,10 +82,10 @@ module _ {D W : Type 0} (seen : D → DiskView) (holding : W → Held) (group : 
                   counts = subst (λ (h : Held). Counts whose h r) (sym (c.held group)) counts;
                 },
               );
-          unwritten = stored_none seen holding group acts old states windows clock sound few hosted kept (fault_in r) h;
-          records = stored_writes seen holding group acts old states windows old.clock sound few hosted kept (fault_in r) h;
+          unwritten = stored_none true seen holding group acts old states windows clock sound few hosted kept (fault_in r) h;
+          records = stored_writes true seen holding group acts old states windows old.clock sound few hosted kept (fault_in r) h;
           quiet = quiet_by r h;
-          sound = λ fault. stored_device seen holding group acts old states windows clock sound few hosted kept (fault_in r) h (ap fault_in fault);
+          sound = λ fault. stored_device true seen holding group acts old states windows clock sound few hosted kept (fault_in r) h (ap fault_in fault);
           log = refl;
           conf = refl;
         }
@@ -141,7 +141,7 @@ module _ {D W : Type 0} (seen : D → DiskView) (holding : W → Held)
             );
         memory = tt;
         records = subst (WritesThen seen old.conf (log_in old.log) visit was_held old.states new.states answer.then) (sym is)
-            (subst (WritesActs seen old.conf old.log.batches visit.group (releases_of visit.member was_held) was_held old.states new.states)
+            (subst (WritesActs seen old.conf old.log.batches visit.group (releases_of visit.member was_held) was_held true old.states new.states)
             (sym (ap fault_of empty.outcome_is ∙ same)) o.records);
         quiet = λ none. o.quiet (λ fault is. none fault (empty.outcome_is ∙ is_told outcome fault (same ∙ ap fault_in is)));
         sound = λ fault. o.sound (is_store r Device (sym same ∙ (ap fault_of (sym empty.outcome_is) ∙ ap fault_of fault)));

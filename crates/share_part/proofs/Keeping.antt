@@ -1,5 +1,5 @@
 -- Acts that are stored by one write, and what is kept of a key then.
-use Rattle.std.proofs.Common.{◌≡◌, ◌⊎◌, ⊎_elim, ◌∙◌, inl, inr, refl, sym, ap, subst, arith, ℕ, List, Option, Some, None}
+use Rattle.std.proofs.Common.{◌≡◌, ◌⊎◌, ⊎_elim, ◌∙◌, inl, inr, refl, sym, ap, subst, arith, ℕ, List, Option, Some, None, true, false}
 use Rattle.std.specs.Prelude.{ℤ, pos, Result, Ok, Err, OnOk, OnErr}
 use Rattle.coord_checkpoint.specs.Disks.{HasFailed}
 use Rattle.coord_checkpoint.specs.Writes.{StaysOn}
@@ -16,7 +16,8 @@ use Rattle.share_coord.specs.Stored.{Entries, based, kept_at, snapshot_frames}
 use Rattle.share_coord.specs.declared.fault.CoordFault.{CoordFault}
 use Rattle.share_coord.proofs.Behind.{granted_based, tidied_once, tidied_stored}
 use Rattle.state_records.specs.declared.record.StateRecord.{StateRecord}
-use Rattle.share_part.specs.Storing.{IsRecordOf, IsReserved, IsStored, StoresOnce, WritesWithin, answer_of, start_number}
+use Rattle.share_part.specs.Acknowledging.{IsRecordOf, start_number}
+use Rattle.share_part.specs.Storing.{IsReserved, IsStored, StoresOnce, WritesWithin, answer_of}
 use Rattle.share_part.proofs.Within.{within_as}
 use Rattle.share_part.proofs.Writing.{kept_one}
 use Rattle.edge_io.specs.Views.{DiskView}
@@ -70,7 +71,7 @@ module _ (es : Entries) (key : KeyParts) (start : Option ℕ) (number : ℤ) (ru
     moments_own told w = within_as seen (IsOwnWritten es key number runs) (IsStored es key start runs) old new own_written w.any_moment
 
     once_as : (done : Result (Unit {0}) CoordFault) → WritesOnce seen (HasFailed seen) (IsOwnWritten es key number runs) old new done
-        → WritesTidied seen (HasFailed seen) (IsStored es key start runs) old new done
+        → WritesTidied seen (HasFailed seen) (IsStored es key start runs) false old new done
     once_as done w = record {
       quiet = w.quiet;
       written = on_ok done (own_written new.entries) w.written;
@@ -78,11 +79,11 @@ module _ (es : Entries) (key : KeyParts) (start : Option ℕ) (number : ℤ) (ru
       same = w.same;
       left = w.left;
       unchanged = w.unchanged;
-      failed = on_err done (λ f pending holds. ⊎_elim (λ still. inl still) (λ lost. inr (lost.0, own_written lost.0 lost.1, lost.2)) (f pending holds)) w.failed;
+      failed = on_err done (λ f pending holds. ⊎_elim (λ still. inl still) (λ other. inr (⊎_elim (λ none. inl none) (λ lost. inr (lost.0, own_written lost.0 lost.1, lost.2)) other)) (f pending holds)) w.failed;
       device = λ e. let d = w.device e in (d.0, (d.1.0, own_written d.1.0 d.1.1));
       full = λ end e. let u = w.full end e in (u.0, (u.1.0, u.1.1, own_written u.1.1 u.1.2, u.1.3, u.1.4, u.1.5));
       mid = old;
-      tidies = inl refl;
+      tidies = refl;
       any_moment = within_as seen (IsOwnWritten es key number runs) (IsStored es key start runs) old new own_written w.any_moment;
     }
 
@@ -98,7 +99,7 @@ module _ (es : Entries) (key : KeyParts) (start : Option ℕ) (number : ℤ) (ru
     module _ (told : Result (Unit {0}) StoreFault) (fault : Option StoreFault) (same : stored_as told ≡ answer_of fault) where
       pub stored_own : WritesOnce seen (HasFailed seen) (IsOwnWritten es key number runs) old new (stored_as told)
           → StoresOne seen (snapshot_frames old.entries) (IsOwnRecord es key number runs) old.journal new.journal (stored_as told)
-          → StoresOnce seen (HasFailed seen) (IsStored es key start runs) (IsRecordOf es key start runs) old new fault
+          → StoresOnce seen (HasFailed seen) (IsStored es key start runs) (IsRecordOf es key start runs) false old new fault
       stored_own once one = record {
         once = once_as (answer_of fault) (subst (WritesOnce seen (HasFailed seen) (IsOwnWritten es key number runs) old new) same once);
         one = one_as (answer_of fault) (subst (StoresOne seen (snapshot_frames old.entries) (IsOwnRecord es key number runs) old.journal new.journal) same one);
@@ -124,7 +125,7 @@ module _ {D : Type 0} (seen : D → DiskView) (old mid new : StoreParts D) (key 
       (one : StoresOne seen (snapshot_frames mid.entries) (IsOwnRecord mid.entries key number runs) mid.journal new.journal (stored_as told))
       (fault : Option StoreFault) (same : stored_as told ≡ answer_of fault) where
     abbrev Once : ℤ → ℤ → ℤ → Type 0
-    Once s l n = WritesTidied seen (HasFailed seen) (IsWritten old.entries key s l n runs) old new (answer_of fault)
+    Once s l n = WritesTidied seen (HasFailed seen) (IsWritten old.entries key s l n runs) true old new (answer_of fault)
 
     abbrev One : ℤ → ℤ → ℤ → Type 0
     One s l n = StoresOne seen (snapshot_frames old.entries) (IsWriteRecord old.entries key s l n runs) old.journal new.journal (answer_of fault)
@@ -135,12 +136,12 @@ module _ {D : Type 0} (seen : D → DiskView) (old mid new : StoreParts D) (key 
     abbrev leader_epoch : ℤ
     leader_epoch = r.kept.view.leader_epoch
 
-    pub stored_behind : StoresOnce seen (HasFailed seen) (IsStored old.entries key start runs) (IsRecordOf old.entries key start runs) old new fault
+    pub stored_behind : StoresOnce seen (HasFailed seen) (IsStored old.entries key start runs) (IsRecordOf old.entries key start runs) true old new fault
     stored_behind = record {
       once = subst (λ (n : ℤ). Once (pos 0) (pos 0) n) is
           (subst (λ (l : ℤ). Once (pos 0) l number) r.epochs.1
           (subst (λ (s : ℤ). Once s leader_epoch number) r.epochs.0
-          (subst (λ (d : Result (Unit {0}) CoordFault). WritesTidied seen (HasFailed seen) (IsWritten old.entries key state_epoch leader_epoch number runs) old new d) same
+          (subst (λ (d : Result (Unit {0}) CoordFault). WritesTidied seen (HasFailed seen) (IsWritten old.entries key state_epoch leader_epoch number runs) true old new d) same
           (tidied_once seen old mid new key number runs its held tidies told alone once))));
       one = subst (λ (n : ℤ). One (pos 0) (pos 0) n) is
           (subst (λ (l : ℤ). One (pos 0) l number) r.epochs.1

@@ -1,5 +1,5 @@
 -- The acknowledgements of a group, by what came of their write.
-use Rattle.std.proofs.Common.{◌≡◌, ◌∙◌, refl, sym, ap, subst, ℕ, ◌^◌, ◌≤◌, List, Option, Some, None}
+use Rattle.std.proofs.Common.{◌≡◌, ◌∙◌, refl, sym, ap, subst, ℕ, ◌^◌, ◌≤◌, List, Bool, Option, Some, None}
 use Rattle.std.specs.Prelude.{pos, IfSome}
 use Rattle.share_coord.specs.Calls.{write_refusal}
 use Rattle.share_coord.specs.Holding.{WritesTidied}
@@ -20,7 +20,8 @@ use Rattle.share_part.specs.Hosting.{PartConfParts, AreHeldWell, AreHosted, Hold
 use Rattle.share_coord.specs.States.{states_of}
 use Rattle.share_part.specs.Foreseeing.{HasChange}
 use Rattle.share_part.specs.Settling.{Acts, AreHeldBy, Change, Judges, change_of}
-use Rattle.share_part.specs.Storing.{IsActsStored, IsRecordOf, IsReserved, IsStored, StoresOnce, answer_of, start_number}
+use Rattle.share_part.specs.Acknowledging.{IsRecordOf, start_number}
+use Rattle.share_part.specs.Storing.{IsActsStored, IsReserved, IsStored, StoresOnce, answer_of}
 use Rattle.share_part.specs.Tables.{table_of}
 use Rattle.share_part.specs.declared.settle.Judged.{Judged}
 use Rattle.share_part.specs.declared.settle.Judged.TheVariants.{NotHeld, Changes}
@@ -65,25 +66,25 @@ module _ {D : Type 0} {from : ℕ} (conf : PartConfParts) (log : List Batch) (gr
         (subst (λ (k : KeyParts). IsReserved old.entries k change.runs room) (sym key_is)
         (reserved conf log old.entries group found.0 held acts change sound few was holds found.1 found.2 canonical room enough))
 
-    module _ (seen : D → DiskView) (Failed : D → D → Type 0) (new : StoreParts D) where
+    module _ (seen : D → DiskView) (Failed : D → D → Type 0) (tries : Bool) (new : StoreParts D) where
       abbrev Once : Option StoreFault → Type 0
-      Once fault = StoresOnce seen Failed (IsStored old.entries key change.start runs) (IsRecordOf old.entries key change.start runs) old new fault
+      Once fault = StoresOnce seen Failed (IsStored old.entries key change.start runs) (IsRecordOf old.entries key change.start runs) tries old new fault
 
-      pub stored_there : (fault : Option StoreFault) → Once fault → IsActsStored seen Failed conf log group acts held old new fault
+      pub stored_there : (fault : Option StoreFault) → Once fault → IsActsStored seen Failed conf log group acts held tries old new fault
       stored_there fault once = record {
         state = found.0;
         change = change;
         known = found.1;
         is = found.2;
-        once = subst (λ (r : List Run). WritesTidied seen Failed (IsStored old.entries (key_of conf group) change.start r) old new (answer_of fault)) runs_are
-            (subst (λ (k : KeyParts). WritesTidied seen Failed (IsStored old.entries k change.start runs) old new (answer_of fault)) key_is once.once);
+        once = subst (λ (r : List Run). WritesTidied seen Failed (IsStored old.entries (key_of conf group) change.start r) tries old new (answer_of fault)) runs_are
+            (subst (λ (k : KeyParts). WritesTidied seen Failed (IsStored old.entries k change.start runs) tries old new (answer_of fault)) key_is once.once);
         one = subst (λ (r : List Run). StoresOne seen (snapshot_frames old.entries) (IsRecordOf old.entries (key_of conf group) change.start r) old.journal new.journal (answer_of fault)) runs_are
             (subst (λ (k : KeyParts). StoresOne seen (snapshot_frames old.entries) (IsRecordOf old.entries k change.start runs) old.journal new.journal (answer_of fault)) key_is once.one);
       }
 
-      pub all_stored : (fault : Option StoreFault) → fault ≡ None → Once fault → IsActsStored seen Failed conf log group acts held old new None
+      pub all_stored : (fault : Option StoreFault) → fault ≡ None → Once fault → IsActsStored seen Failed conf log group acts held tries old new None
       all_stored fault none once = stored_there None (subst Once none once)
 
       pub none_stored : (fault : Option StoreFault) (its : StoreFault) → fault ≡ Some its → Once fault
-          → IsActsStored seen Failed conf log group acts held old new (Some its)
+          → IsActsStored seen Failed conf log group acts held tries old new (Some its)
       none_stored fault its some once = stored_there (Some its) (subst Once some once)

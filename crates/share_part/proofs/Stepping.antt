@@ -15,7 +15,8 @@ use Rattle.share_model.specs.declared.row.Row.{Row}
 use Rattle.share_part.specs.Hosting.{PartConfParts, IsHosted, key_of}
 use Rattle.share_coord.specs.States.{states_of}
 use Rattle.share_part.specs.Settling.{Acts, Change, IsChange, IsSettled, acted, stored_after}
-use Rattle.share_part.specs.Storing.{IsStored, start_number}
+use Rattle.share_part.specs.Acknowledging.{start_number}
+use Rattle.share_part.specs.Storing.{IsStored}
 use Rattle.share_part.specs.Tables.{table_of}
 use Rattle.share_part.proofs.Slotting.{starting}
 use Rattle.share_part.proofs.Seeing.{kept_view, state_seen, view_of, with_based}

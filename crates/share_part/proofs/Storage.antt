@@ -23,6 +23,7 @@ use Rattle.share_part.specs.Hosting.{AreHosted, IsHosted, KeepsHolds, key_of}
 use Rattle.share_coord.specs.States.{states_of}
 use Rattle.share_part.specs.Settling.{Acts, IsSettled, held_after}
 use Rattle.share_part.specs.Shards.{PartShardState, PartParts, Carries, IsPendingHosted, held_in, with_held}
+use Rattle.state_records.specs.Spelling.{record_bytes}
 use Rattle.share_part.specs.Storing.{IsActsStored, IsStored, StoresGroup}
 use Rattle.share_part.specs.Tables.{table_of}
 use Rattle.share_part.specs.Writes.{WritesActs}
@@ -34,7 +35,7 @@ use Rattle.share_part.proofs.Stepping.{next, now_settled, now_states}
 use Rattle.share_part.proofs.Visiting.{Keeping, carried, carries_with, shard_of}
 use Rattle.edge_io.specs.Views.{DiskView}
 
-module _ {D W : Type 0} (seen : D → DiskView) (holding : W → Held) (group : List ℕ) (acts : Acts) (old : PartParts D W) (states : StoreParts D)
+module _ {D W : Type 0} (tries : Bool) (seen : D → DiskView) (holding : W → Held) (group : List ℕ) (acts : Acts) (old : PartParts D W) (states : StoreParts D)
     (windows : List (List ℕ × W)) (clock : ℕ) (sound : IsStoredLog old.log.batches) (few : old.conf.limit ≤ 10)
     (hosted : AreHosted old.conf (log_in old.log) (states_of old.states.entries))
     (kept : AreKept old.conf old.log.batches (states_of old.states.entries) (held_in holding old.windows)) where
@@ -61,10 +62,10 @@ module _ {D W : Type 0} (seen : D → DiskView) (holding : W → Held) (group : 
   Failed = HasFailed seen
 
   abbrev pub Stores : Option StoreFault → Type 0
-  Stores fault = StoresGroup seen Failed old.conf old.log.batches group acts was old.states states Same Ends fault
+  Stores fault = StoresGroup seen Failed old.conf old.log.batches group acts was tries old.states states Same Ends fault
 
   abbrev Stored : Option StoreFault → Type 0
-  Stored fault = IsActsStored seen Failed old.conf old.log.batches group acts was old.states states fault
+  Stored fault = IsActsStored seen Failed old.conf old.log.batches group acts was tries old.states states fault
 
   -- ---- what is stored
 
@@ -198,10 +199,17 @@ module _ {D W : Type 0} (seen : D → DiskView) (holding : W → Held) (group : 
       ⊎_elim
       (λ holds. record {
         then = shard_same batch pending;
-        carries = same_carried batch pending pending k h.1.once.same holds k.pending_hosted (level_left k.level h.1.once.left) k.pending_level h.2;
+        carries = same_carried batch pending pending k h.1.once.same holds.1 k.pending_hosted (level_left k.level h.1.once.left) k.pending_level h.2;
         log = refl;
         clock_is = refl;
         does = (h.0, rises, record { states = refl; held = refl; pending = inl refl });
+      })
+      (λ other. ⊎_elim (λ none. record {
+        then = shard_same batch None;
+        carries = same_carried batch pending None k h.1.once.same none tt (level_left k.level h.1.once.left) tt h.2;
+        log = refl;
+        clock_is = refl;
+        does = (h.0, rises, record { states = refl; held = refl; pending = inr (inl refl) });
       })
       (λ lost. record {
         then = shard_same batch (Some lost.0);
@@ -209,11 +217,11 @@ module _ {D W : Type 0} (seen : D → DiskView) (holding : W → Held) (group : 
             (set_level (Some Device) h.1 lost.0 lost.1 k.level) h.2;
         log = refl;
         clock_is = refl;
-        does = (h.0, rises, record { states = refl; held = refl; pending = inr (states_of lost.0, refl, are_settled (Some Device) h.1 lost.0 lost.1 batch pending) });
-      })
+        does = (h.0, rises, record { states = refl; held = refl; pending = inr (inr (states_of lost.0, refl, are_settled (Some Device) h.1 lost.0 lost.1 batch pending)) });
+      }) other)
       (h.1.once.failed pending k.holds))
   stored_steps runs (Some (Full at)) h = carried seen holding old (Steps (DoesActs (Some (Full at)))) (λ batch pending k.
-      let full = h.1.once.full at refl in record {
+      let full = h.1.one.full at refl in record {
         then = shard_same batch pending;
         carries = same_carried batch pending pending k h.1.once.same (held_still seen old.states states (h.1.once.unchanged (λ e. let never : ⊥ = cc in never)) pending k.holds) k.pending_hosted (level_left k.level h.1.once.left) k.pending_level h.2;
         log = refl;
@@ -224,13 +232,14 @@ module _ {D W : Type 0} (seen : D → DiskView) (holding : W → Held) (group : 
           record { states = refl; pending = refl; held = refl },
           record {
             before = old.states.entries;
-            after = full.1.1;
-            frame = full.1.0;
+            state = h.1.state;
+            change = h.1.change;
+            one = full.1.0;
             is_before = refl;
-            is_after = are_settled (Some (Full at)) h.1 full.1.1 full.1.2 batch pending;
-            accepted = full.1.3;
-            fits = full.1.4;
-            past = subst (λ (n : ℕ). 2 ^ 62 < n + (length full.1.0 + 5)) full.0 full.1.5;
+            known = h.1.known;
+            is_change = h.1.is;
+            is_one = full.1.1;
+            past = subst (λ (n : ℕ). 2 ^ 62 < n + (length (record_bytes full.1.0) + 5)) full.0 full.1.2;
           },
         );
       })
@@ -256,7 +265,7 @@ module _ {D W : Type 0} (seen : D → DiskView) (holding : W → Held) (group : 
   stored_quiet (inr h) = h.1.once.quiet
 
   -- which record is stored
-  pub stored_writes : (fault : Option StoreFault) → Stores fault → WritesActs seen old.conf old.log.batches group acts was old.states states fault
+  pub stored_writes : (fault : Option StoreFault) → Stores fault → WritesActs seen old.conf old.log.batches group acts was tries old.states states fault
   stored_writes None (inl n) = inl (n.0, n.1)
   stored_writes None (inr h) = inr (h.0, h.1)
   stored_writes (Some fault) h = (h.0, h.1)

@@ -456,11 +456,13 @@ module _ {D W : Type 0} (seen : D → DiskView) (holding : W → Held) (now : �
         answered answer (writes_one none (Err (Store Device)) once) (records_of answer (store_outcome Device) refused.empty.outcome_is by) (λ told. absurd (told Device refused.empty.outcome_is))
         (carried seen holding old (Leads answer) (λ batch pending k.
         ⊎_elim
-        (λ holds. unmade answer Device batch pending pending k refused once.same holds k.pending_hosted (level_left k.level once.left) k.pending_level none
+        (λ holds. unmade answer Device batch pending pending k refused once.same holds.1 k.pending_hosted (level_left k.level once.left) k.pending_level none
         (rose, refused.empty, record { states = refl; pending = inl refl; held = refl }))
+        (λ other. ⊎_elim (λ mended. unmade answer Device batch pending None k refused once.same mended tt (level_left k.level once.left) tt none
+        (rose, refused.empty, record { states = refl; pending = inr (inl refl); held = refl }))
         (λ lost. unmade answer Device batch pending (Some lost.0) k refused once.same lost.2 (made_hosted lost.0 lost.1 (keeps_start seen old.log batch k.log.keeps) k.hosted) (level_left k.level once.left)
         (made_level lost.0 lost.1 (keeps_start seen old.log batch k.log.keeps) k.hosted k.level) none
-        (rose, refused.empty, record { states = refl; pending = inr (states_of lost.0, refl, made_states lost.0 lost.1); held = refl }))
+        (rose, refused.empty, record { states = refl; pending = inr (inr (states_of lost.0, refl, made_states lost.0 lost.1)); held = refl })) other)
         (once.failed pending k.holds)))
         (λ is. starve_either seen old.states new.states failed) (λ fault is. same_log) others_fetch
     unstored answer (Full at) same_log none once by refused =

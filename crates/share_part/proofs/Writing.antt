@@ -25,7 +25,8 @@ use Rattle.share_part.specs.Hosting.{PartConfParts, AreHeldWell, IsHosted, key_o
 use Rattle.share_coord.specs.States.{states_of}
 use Rattle.share_part.specs.Settling.{Acts, Change, IsChange, acted, stored_after}
 use Rattle.share_part.specs.Slots.{and_more, next_slot, slots_from}
-use Rattle.share_part.specs.Storing.{IsReserved, start_number}
+use Rattle.share_part.specs.Acknowledging.{start_number}
+use Rattle.share_part.specs.Storing.{IsReserved}
 use Rattle.share_part.specs.Tables.{table_of}
 use Rattle.share_part.proofs.Producing.{front_or, none_in}
 use Rattle.share_part.proofs.Seeing.{state_seen, view_of}

@@ -5,27 +5,31 @@
 -- and leaves all. An accept from 0 to 2 stores the start 3 with no rows, and nothing is held any more; where the device fails, all three
 -- are held as before, and the write is pending. Where the power is lost meanwhile, the start is 0 or 3. Had a delete raised the log's start to
 -- 2 before, then an accept of 0 and 1 would be done with no write, of whichever member, and one from 0 to 2 would store the start 3.
-use Rattle.std.specs.Prelude.{◌≡◌, ◌⊎◌, ◌+◌, ◌<◌, ◌^◌, ℕ, List, length, Option, Some, None, IsSome}
+use Rattle.std.specs.Prelude.{◌≡◌, ◌⊎◌, ◌+◌, ◌<◌, ◌^◌, ℕ, ℤ, pos, negsuc, List, length, Option, Some, None, IsSome}
 use Rattle.std.specs.BTreeMap.{insert_entry}
 use Rattle.ack_ranges.specs.Batches.{IsWellFormed}
 use Rattle.ack_ranges.specs.Faults.{IsFirstFault}
 use Rattle.gate_journal.specs.Frames.{IsFrame}
 use Rattle.share_model.specs.ForeignRules.{ShareStates, share_state_at}
-use Rattle.share_model.specs.Keys.{key_cmp}
+use Rattle.share_model.specs.Keys.{KeyParts, key_cmp}
 use Rattle.share_model.specs.Pending.{WithPending}
 use Rattle.share_model.specs.ShareStates.{ShareState}
+use Rattle.share_model.specs.declared.run.Run.{Run}
 use Rattle.share_model.specs.declared.fault.StoreFault.{StoreFault}
 use Rattle.share_model.specs.declared.fault.StoreFault.TheVariants.{Device, Full}
 use Rattle.share_model.specs.declared.visit.AckOutcome.{AckOutcome}
 use Rattle.share_model.specs.declared.visit.AckOutcome.TheVariants.{Done, Malformed, NotHeld, Store}
 use Rattle.share_model.specs.declared.visit.Visit.{Visit}
 use Rattle.share_coord.specs.Holding.{GoesTo}
+use Rattle.share_coord.specs.Recorded.{IsWriteRecord}
 use Rattle.share_coord.specs.Stored.{Entries}
+use Rattle.state_records.specs.Spelling.{record_bytes}
+use Rattle.state_records.specs.declared.record.StateRecord.{StateRecord}
 use Rattle.share_part.specs.Hosting.{PartConfParts, key_of}
 use Rattle.share_coord.specs.Raising.{raised_states}
 use Rattle.share_coord.specs.States.{AreStates, states_of}
 use Rattle.share_part.specs.Named.{named_from}
-use Rattle.share_part.specs.Settling.{Acts, AreHeldBy, IsLeastMissing, IsSettled, held_after}
+use Rattle.share_part.specs.Settling.{Acts, AreHeldBy, Change, IsChange, IsLeastMissing, IsSettled, held_after}
 use Rattle.share_part.specs.Shards.{IsStill, PartShardState, with_held}
 use Rattle.share_part.specs.Tables.{table_of}
 
@@ -43,11 +47,11 @@ pub record IsActedOn (conf : PartConfParts) (old : PartShardState) (group : List
   pub nothing : new.pending ≡ None
   pub held : new.held ≡ with_held old.held group (held_after acts (old.held group))
 
--- A write that would leave such states couldn't be stored: all is as before, and the pending write is the one from before or this one.
+-- A write that would leave such states couldn't be stored: all is as before, and the pending write is the one from before, or none, or this one.
 pub record IsNotStored (Leaves : ShareStates → Type 0) (old new : PartShardState) : Type 0 where
   pub states : new.states ≡ old.states
   pub held : new.held ≡ old.held
-  pub pending : (new.pending ≡ old.pending) ⊎ ((lost : ShareStates) × (new.pending ≡ Some lost) × Leaves lost)
+  pub pending : (new.pending ≡ old.pending) ⊎ ((new.pending ≡ None) ⊎ ((lost : ShareStates) × (new.pending ≡ Some lost) × Leaves lost))
 
 -- a journal that ends at `end` has no room below 2^62 for the frame of a write that would leave such states
 pub record HasNoRoom (Leaves : ShareStates → Type 0) (end : ℕ) (old : PartShardState) : Type 0 where
@@ -60,9 +64,26 @@ pub record HasNoRoom (Leaves : ShareStates → Type 0) (end : ℕ) (old : PartSh
   pub fits : IsFrame frame
   pub past : 2 ^ 62 < end + (length frame + 5)
 
--- it has none for acts on a group's table
-abbrev pub HasNoRoomFor : PartConfParts → (end : ℕ) → PartShardState → (group : List ℕ) → Acts → Type 0
-HasNoRoomFor conf end old group acts = HasNoRoom (AreSettled conf old group acts) end old
+-- a start as a write carries it: -1 where it doesn't move
+abbrev pub start_number : Option ℕ → ℤ
+start_number None = negsuc 0
+start_number (Some start) = pos start
+
+-- the record that acts store: the rows as they are given, and the start, or -1 where it doesn't move and wasn't raised
+abbrev pub IsRecordOf : Entries → KeyParts → Option ℕ → List Run → StateRecord → Type 0
+IsRecordOf old key start runs one = IsWriteRecord old key (pos 0) (pos 0) (start_number start) runs one
+
+-- it has none for the record that acts on a group's table store, which is an update or a snapshot
+pub record HasNoRoomFor (conf : PartConfParts) (end : ℕ) (old : PartShardState) (group : List ℕ) (acts : Acts) : Type 0 where
+  pub before : Entries
+  pub state : ShareState
+  pub change : Change
+  pub one : StateRecord
+  pub is_before : states_of before ≡ old.states
+  pub known : share_state_at old.states (key_of conf group) ≡ Some state
+  pub is_change : IsChange conf.limit acts old.log.batches (table_of state (old.held group)) change
+  pub is_one : IsRecordOf before (key_of conf group) change.start change.runs one
+  pub past : 2 ^ 62 < end + (length (record_bytes one) + 5)
 
 -- acts that name no offset, and acts that name one
 abbrev pub NameNone : Acts → Type 0

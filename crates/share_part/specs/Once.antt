@@ -93,8 +93,8 @@ Visited seen holding now visit before after unread answer = (old : PartShardStat
     × StepsVisit before.conf (reading_of seen before.log after.log unread) (failures_of seen before.states) (failures_of seen after.states)
     before.states.journal.end after.states.journal.end old now visit answer new
 
--- A visit.
-pub record VisitsOnce {D W : Type 0} (seen : D → DiskView) (holding : W → Held) (now : ℕ) (visit : Visit) (before after : PartParts D W) (result : Result VisitAnswer NoMemory)
+-- A visit. A checkpoint is tried before the write of its acknowledgements where one is due, if one `tries`.
+pub record VisitsOnce {D W : Type 0} (seen : D → DiskView) (holding : W → Held) (now : ℕ) (tries : Bool) (visit : Visit) (before after : PartParts D W) (result : Result VisitAnswer NoMemory)
     : Type 0 where
   -- whether a batch couldn't be read
   pub unread : Bool
@@ -103,7 +103,7 @@ pub record VisitsOnce {D W : Type 0} (seen : D → DiskView) (holding : W → He
   pub memory : OnErr result (IsUntouched holding before after)
   -- which records are stored; where the answer tells no store fault of a write, no device call of it failed but those of a checkpoint
   pub records : IfOk result (WritesVisit unread seen before.conf (log_in before.log) visit
-      (held_in holding before.windows visit.group) before.states after.states)
+      (held_in holding before.windows visit.group) tries before.states after.states)
   -- with nothing armed, a device fault of a write comes only where a disk finds no memory
   pub ack_sound : IfOk result (λ answer. answer.ack ≡ ack_store Device → StarveUnarmed seen before.states after.states)
   pub sound : IfOk result (λ answer. write_outcome unread answer.then ≡ Store Device →

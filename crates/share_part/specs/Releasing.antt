@@ -93,7 +93,7 @@ pub record ReleasesOnce {D W : Type 0} (seen : D → DiskView) (holding : W → 
   -- which record is stored
   pub records : WritesActs seen before.conf before.log.batches group
       (releasing (is_chosen whose) (held_in holding before.windows group)) (held_in holding before.windows group)
-      before.states after.states (fault_in released)
+      true before.states after.states (fault_in released)
   -- where no store fault is told, no device call failed but those of a checkpoint
   pub quiet : ((fault : StoreFault) → released ≢ Store fault) → AreQuiet seen before.states after.states
   pub sound : released ≡ Store Device → StarveUnarmed seen before.states after.states

@@ -1,7 +1,7 @@
 -- What became of the one write that stores acts, and which record it stores. Of these public clauses cite
 -- `IsActsStored`, by `Writes`, and the private ones the others.
 -- For example a write that fails at the device is told by its fault, and leaves the states.
-use Rattle.std.specs.Prelude.{◌≡◌, ◌⊎◌, ◌≤◌, ◌+◌, ◌*◌, ℕ, ℤ, pos, negsuc, List, length, Option, Some, None, Result, Ok, Err}
+use Rattle.std.specs.Prelude.{◌≡◌, ◌⊎◌, ◌≤◌, ◌+◌, ◌*◌, ℕ, pos, List, length, Bool, Option, Some, None, Result, Ok, Err}
 use Rattle.share_model.specs.ForeignRules.{share_state_at}
 use Rattle.share_model.specs.Held.{Held}
 use Rattle.share_model.specs.Keys.{KeyParts}
@@ -15,7 +15,7 @@ use Rattle.share_model.specs.declared.ack.AckFault.{AckFault}
 use Rattle.share_model.specs.declared.visit.AckOutcome.{AckOutcome}
 use Rattle.share_model.specs.declared.visit.AckOutcome.TheVariants.{Done, Malformed, NotHeld, Store as refused}
 use Rattle.part_log.specs.Starts.{Log}
-use Rattle.share_part.specs.Acknowledging.{NameNone, NameOne}
+use Rattle.share_part.specs.Acknowledging.{IsRecordOf, NameNone, NameOne, start_number}
 use Rattle.share_part.specs.Hosting.{PartConfParts, key_of}
 use Rattle.share_coord.specs.States.{states_of}
 use Rattle.share_part.specs.Named.{named_from}
@@ -27,35 +27,33 @@ use Rattle.share_coord.specs.Calls.{IsWritten}
 use Rattle.edge_io.specs.Moments.{LeavesPairs}
 use Rattle.share_coord.specs.Holding.{Holds, IsWithin, WritesTidied}
 use Rattle.share_coord.specs.Parts.{KeptState, StoreParts}
-use Rattle.share_coord.specs.Recorded.{IsWriteRecord, StoresOne}
+use Rattle.share_coord.specs.Recorded.{StoresOne}
 use Rattle.state_records.specs.declared.record.StateRecord.{StateRecord}
 use Rattle.share_coord.specs.Stored.{Entries, kept_at, snapshot_frames}
 use Rattle.share_coord.specs.declared.fault.CoordFault.{CoordFault}
 use Rattle.share_coord.specs.declared.fault.CoordFault.TheVariants.{Store}
 use Rattle.edge_io.specs.Views.{DiskView}
 
--- a start as a write carries it: -1 where it doesn't move
-abbrev pub start_number : Option ℕ → ℤ
-start_number None = negsuc 0
-start_number (Some start) = pos start
-
 -- what acts write of a key
 abbrev pub IsStored : Entries → KeyParts → Option ℕ → List Run → Entries → Type 0
 IsStored old key start runs new = IsWritten old key (pos 0) (pos 0) (start_number start) runs new
-
--- the record that it stores: the rows as they are given, and the start, or -1 where it doesn't move and wasn't raised
-abbrev pub IsRecordOf : Entries → KeyParts → Option ℕ → List Run → StateRecord → Type 0
-IsRecordOf old key start runs one = IsWriteRecord old key (pos 0) (pos 0) (start_number start) runs one
 
 -- what the store answers, by the fault that is told of it
 abbrev pub answer_of : Option StoreFault → Result (Unit {0}) CoordFault
 answer_of None = Ok tt
 answer_of (Some fault) = Err (Store fault)
 
--- Acts that are stored, or aren't, by the fault that is told.
+-- what it answers, by what acknowledgements come to: where they store nothing it isn't asked
+abbrev pub answer_to : AckOutcome → Result (Unit {0}) CoordFault
+answer_to Done = Ok tt
+answer_to (Malformed fault) = Ok tt
+answer_to (NotHeld offset) = Ok tt
+answer_to (refused fault) = Err (Store fault)
+
+-- Acts that are stored, or aren't, by the fault that is told; behind a checkpoint that is tried where one is due, if one `tries`.
 pub record StoresOnce {D : Type 0} (seen : D → DiskView) (Failed : D → D → Type 0)
-    (Written : Entries → Type 0) (Is : StateRecord → Type 0) (old new : StoreParts D) (fault : Option StoreFault) : Type 0 where
-  pub once : WritesTidied seen Failed Written old new (answer_of fault)
+    (Written : Entries → Type 0) (Is : StateRecord → Type 0) (tries : Bool) (old new : StoreParts D) (fault : Option StoreFault) : Type 0 where
+  pub once : WritesTidied seen Failed Written tries old new (answer_of fault)
   pub one : StoresOne seen (snapshot_frames old.entries) Is old.journal new.journal (answer_of fault)
 
 -- at each moment since a write began that tries no checkpoint, a crash leaves what stood at entry, or what it writes
@@ -81,39 +79,39 @@ pub record IsReserved (entries : Entries) (key : KeyParts) (runs : List Run) (ro
 
 -- the group has a table, and this came of the write of what acts change of it
 pub record IsActsStored {D : Type 0} (seen : D → DiskView) (Failed : D → D → Type 0)
-    (conf : PartConfParts) (log : List Batch) (group : List ℕ) (acts : Acts) (held : Held) (old new : StoreParts D)
+    (conf : PartConfParts) (log : List Batch) (group : List ℕ) (acts : Acts) (held : Held) (tries : Bool) (old new : StoreParts D)
     (fault : Option StoreFault) : Type 0 where
   pub state : ShareState
   pub change : Change
   pub known : share_state_at (states_of old.entries) (key_of conf group) ≡ Some state
   pub is : IsChange conf.limit acts log (table_of state held) change
-  pub once : WritesTidied seen Failed (IsStored old.entries (key_of conf group) change.start change.runs) old new (answer_of fault)
+  pub once : WritesTidied seen Failed (IsStored old.entries (key_of conf group) change.start change.runs) tries old new (answer_of fault)
   pub one : StoresOne seen (snapshot_frames old.entries) (IsRecordOf old.entries (key_of conf group) change.start change.runs)
       old.journal new.journal (answer_of fault)
 
 -- Acts on the table of a group, by the fault that is told: `was` is what the group held, `same` says that all groups hold what they did, and
 -- `ends` that the named offsets aren't held any more.
 abbrev pub StoresGroup : {D : Type 0} (seen : D → DiskView) (Failed : D → D → Type 0)
-    (conf : PartConfParts) (log : List Batch) (group : List ℕ) (acts : Acts) (was : Held) (old new : StoreParts D) (same ends : Type 0)
+    (conf : PartConfParts) (log : List Batch) (group : List ℕ) (acts : Acts) (was : Held) (tries : Bool) (old new : StoreParts D) (same ends : Type 0)
     → Option StoreFault → Type 0
-StoresGroup seen Failed conf log group acts was old new same ends None =
-    (NameNone acts × (new ≡ old) × same) ⊎ (NameOne acts × IsActsStored seen Failed conf log group acts was old new None × ends)
-StoresGroup seen Failed conf log group acts was old new same ends (Some fault) =
-    NameOne acts × IsActsStored seen Failed conf log group acts was old new (Some fault) × same
+StoresGroup seen Failed conf log group acts was tries old new same ends None =
+    (NameNone acts × (new ≡ old) × same) ⊎ (NameOne acts × IsActsStored seen Failed conf log group acts was tries old new None × ends)
+StoresGroup seen Failed conf log group acts was tries old new same ends (Some fault) =
+    NameOne acts × IsActsStored seen Failed conf log group acts was tries old new (Some fault) × same
 
 -- ---- the acknowledgements of a group
 
 -- the acknowledgements of a group, by their answer
 abbrev pub SettlesGroup : {D : Type 0} (seen : D → DiskView) (Failed : D → D → Type 0)
-    (conf : PartConfParts) (log : List Batch) (group member : List ℕ) (acts : Acts) (was : Held) (old new : StoreParts D) (same ends : Type 0)
+    (conf : PartConfParts) (log : List Batch) (group member : List ℕ) (acts : Acts) (was : Held) (tries : Bool) (old new : StoreParts D) (same ends : Type 0)
     → AckOutcome → Type 0
-SettlesGroup seen Failed conf log group member acts was old new same ends (NotHeld offset) =
+SettlesGroup seen Failed conf log group member acts was tries old new same ends (NotHeld offset) =
     IsLeastMissing member acts was offset × (new ≡ old) × same
-SettlesGroup seen Failed conf log group member acts was old new same ends (Malformed fault) = ⊥
-SettlesGroup seen Failed conf log group member acts was old new same ends Done =
-    AreHeldBy member acts was × StoresGroup seen Failed conf log group acts was old new same ends None
-SettlesGroup seen Failed conf log group member acts was old new same ends (refused fault) =
-    AreHeldBy member acts was × StoresGroup seen Failed conf log group acts was old new same ends (Some fault)
+SettlesGroup seen Failed conf log group member acts was tries old new same ends (Malformed fault) = ⊥
+SettlesGroup seen Failed conf log group member acts was tries old new same ends Done =
+    AreHeldBy member acts was × StoresGroup seen Failed conf log group acts was tries old new same ends None
+SettlesGroup seen Failed conf log group member acts was tries old new same ends (refused fault) =
+    AreHeldBy member acts was × StoresGroup seen Failed conf log group acts was tries old new same ends (Some fault)
 
 -- Acknowledgements, where the log starts there: they aren't well formed, or name no offset from there on, or are done for the group.
 -- `still` says that nothing changed, and `Settles` what is done for the group.

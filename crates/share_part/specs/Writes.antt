@@ -37,25 +37,25 @@ use Rattle.share_part.specs.Settling.{Acts, held_after}
 use Rattle.share_part.specs.Storing.{IsActsStored}
 
 -- Acts on the table of a group that held this, by the fault that their write met, if it met one. Where they name no
--- offset there is no write.
+-- offset there is no write. A checkpoint is tried before it where one is due, if one `tries`.
 abbrev pub WritesActs : {D : Type 0} → (D → DiskView) → PartConfParts → (log : List Batch) → (group : List ℕ) → Acts
-    → (was : Held) → (old new : StoreParts D) → Option StoreFault → Type 0
-WritesActs seen conf log group acts was old new None = (NameNone acts × (new ≡ old))
-    ⊎ (NameOne acts × IsActsStored seen (HasFailed seen) conf log group acts was old new None)
-WritesActs seen conf log group acts was old new (Some fault) =
-    NameOne acts × IsActsStored seen (HasFailed seen) conf log group acts was old new (Some fault)
+    → (was : Held) → (tries : Bool) → (old new : StoreParts D) → Option StoreFault → Type 0
+WritesActs seen conf log group acts was tries old new None = (NameNone acts × (new ≡ old))
+    ⊎ (NameOne acts × IsActsStored seen (HasFailed seen) conf log group acts was tries old new None)
+WritesActs seen conf log group acts was tries old new (Some fault) =
+    NameOne acts × IsActsStored seen (HasFailed seen) conf log group acts was tries old new (Some fault)
 
 -- ---- a visit
 
 -- the acknowledgements, by their answer
-abbrev pub WritesAcks : {D : Type 0} → (D → DiskView) → PartConfParts → (log : Log) → Visit → (was : Held)
+abbrev pub WritesAcks : {D : Type 0} → (D → DiskView) → PartConfParts → (log : Log) → Visit → (was : Held) → (tries : Bool)
     → (old new : StoreParts D) → AckOutcome → Type 0
-WritesAcks seen conf log visit was old new (Malformed fault) = new ≡ old
-WritesAcks seen conf log visit was old new (NotHeld offset) = new ≡ old
-WritesAcks seen conf log visit was old new Done =
-    WritesActs seen conf log.batches visit.group (named_from log.start visit.acks) was old new None
-WritesAcks seen conf log visit was old new (Store fault) =
-    WritesActs seen conf log.batches visit.group (named_from log.start visit.acks) was old new (Some fault)
+WritesAcks seen conf log visit was tries old new (Malformed fault) = new ≡ old
+WritesAcks seen conf log visit was tries old new (NotHeld offset) = new ≡ old
+WritesAcks seen conf log visit was tries old new Done =
+    WritesActs seen conf log.batches visit.group (named_from log.start visit.acks) was tries old new None
+WritesAcks seen conf log visit was tries old new (Store fault) =
+    WritesActs seen conf log.batches visit.group (named_from log.start visit.acks) was tries old new (Some fault)
 
 -- what the group holds behind them
 abbrev pub held_behind : (start : ℕ) → Visit → Held → AckOutcome → Held
@@ -69,7 +69,7 @@ abbrev pub WritesThen : {D : Type 0} → (D → DiskView) → PartConfParts → 
     → (old new : StoreParts D) → ThenOutcome → Then → Type 0
 WritesThen seen conf log visit was old new outcome Nothing = new ≡ old
 WritesThen seen conf log visit was old new outcome Release =
-    WritesActs seen conf log.batches visit.group (releases_of visit.member was) was old new (fault_of outcome)
+    WritesActs seen conf log.batches visit.group (releases_of visit.member was) was true old new (fault_of outcome)
 WritesThen seen conf log visit was old new outcome (Fetch records bytes first) =
     MakesTableOnce seen (HasFailed seen) conf visit.group log old new (Ok outcome)
 
@@ -80,10 +80,10 @@ write_outcome false told = told
 
 -- a visit that is answered
 pub record WritesVisit {D : Type 0} (unread : Bool) (seen : D → DiskView) (conf : PartConfParts) (log : Log)
-    (visit : Visit) (was : Held) (old new : StoreParts D) (answer : VisitAnswer) : Type 0 where
+    (visit : Visit) (was : Held) (tries : Bool) (old new : StoreParts D) (answer : VisitAnswer) : Type 0 where
   -- the states between the two writes
   pub between : StoreParts D
-  pub acks : WritesAcks seen conf log visit was old between answer.ack
+  pub acks : WritesAcks seen conf log visit was tries old between answer.ack
   pub follows : WritesThen seen conf log visit (held_behind log.start visit was answer.ack) between new
       (write_outcome unread answer.then) visit.then
   -- where no store fault was met by one of both, no call of the state disks failed in it, but those of a checkpoint
@@ -98,7 +98,7 @@ abbrev pub WritesGroups : {D : Type 0} → (D → DiskView) → PartConfParts �
     → (List ℕ → Held) → List (List ℕ) → (old new : StoreParts D) → Type 0
 WritesGroups seen conf log clock held [] old new = new ≡ old
 WritesGroups {D} seen conf log clock held (group ∷ groups) old new = (between : StoreParts D)
-    × WritesActs seen conf log group (ending clock (held group)) (held group) old between None × AreQuiet seen old between
+    × WritesActs seen conf log group (ending clock (held group)) (held group) true old between None × AreQuiet seen old between
     × WritesGroups seen conf log clock held groups between new
 
 -- An expiry over these groups: all are done, or those up to one whose write fails, or none where it finds no memory.
@@ -109,5 +109,5 @@ WritesExpiry seen conf log clock held groups old new (Ok (expired freed)) =
 WritesExpiry {D} seen conf log clock held groups old new (Ok (expire_store freed group fault)) =
     (done : List (List ℕ)) × (behind : List (List ℕ)) × (groups ≡ done ++ (group ∷ behind))
     × (between : StoreParts D) × WritesGroups seen conf log clock held done old between
-    × WritesActs seen conf log group (ending clock (held group)) (held group) between new (Some fault)
+    × WritesActs seen conf log group (ending clock (held group)) (held group) true between new (Some fault)
 WritesExpiry seen conf log clock held groups old new (Err e) = new ≡ old

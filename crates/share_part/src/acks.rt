@@ -1,6 +1,7 @@
 // The acknowledgements of a visit.
 ghost use Rattle.std.specs.Prelude.{◌≡◌, ◌≤◌, ◌<◌, ◌^◌, ℕ, List, None, IfSome, IfNone, false, length};
 ghost use Rattle.coord_checkpoint.specs.Disks.{HasFailed};
+ghost use Rattle.coord_checkpoint.specs.Writes.{StaysOn};
 ghost use Rattle.topic_conf.specs.Configs.{IsLimit};
 ghost use Rattle.ack_ranges.specs.Batches.{IsWellFormed};
 ghost use Rattle.offset_runs.specs.Changes.{room_of};
@@ -14,7 +15,7 @@ ghost use Rattle.share_coord.specs.States.{states_of};
 ghost use Rattle.share_part.specs.Settling.{held_after};
 ghost use Rattle.share_part.specs.Shards.{held_in, with_held};
 ghost use Rattle.share_part.specs.Foreseeing.{HasSpare, JudgesAcks, JudgesGiven};
-ghost use Rattle.share_part.specs.Storing.{AcksOnce, AreCanonical, IsAcksWritten, SettlesGroup, WritesWithin};
+ghost use Rattle.share_part.specs.Storing.{AcksOnce, AreCanonical, IsAcksWritten, SettlesGroup, WritesWithin, answer_to};
 ghost use Rattle.share_part.specs.declared.settle.Moved.{Moved};
 ghost use Rattle.share_part.specs.Failures.{RunOnBoth};
 
@@ -186,13 +187,14 @@ pub fn settle_given<D: Disk, W: Window>(
         ((states.new ≡ states.old)
         × ((other : List ℕ) → held_in W.held windows.new.entries other ≡ held_in W.held windows.old.entries other))
         (SettlesGroup D.seen (HasFailed D.seen) conf.now log.now.batches
-        group.now member.now (named_from log.now.start batches.now) (held_in W.held windows.old.entries group.now) states.old states.new
+        group.now member.now (named_from log.now.start batches.now) (held_in W.held windows.old.entries group.now) tidies states.old states.new
         ((other : List ℕ) → held_in W.held windows.new.entries other ≡ held_in W.held windows.old.entries other)
         ((other : List ℕ) → held_in W.held windows.new.entries other ≡ with_held (held_in W.held windows.old.entries) group.now
         (held_after (named_from log.now.start batches.now) (held_in W.held windows.old.entries group.now)) other)) result }
     ensures moments { tidies ≡ false → WritesWithin D.seen
         (IsAcksWritten conf.now (log_in log.now) group.now member.now batches.now
         (held_in W.held windows.old.entries group.now) states.old.entries) states.old states.new }
+    ensures alone { tidies ≡ false → StaysOn D.seen states.old.journal states.new.journal (answer_to result) }
     ensures malformed { (fault : AckFault) → acks.now ≡ Acks.Malformed fault →
         result ≡ AckOutcome.Malformed fault }
     ensures spare { (n : ℕ) → HasSpare W.spare windows.old.entries group.now n →
@@ -277,7 +279,7 @@ pub fn settle_acks<D: Disk, W: Window>(
         ((states.new ≡ states.old)
         × ((other : List ℕ) → held_in W.held windows.new.entries other ≡ held_in W.held windows.old.entries other))
         (SettlesGroup D.seen (HasFailed D.seen) conf.now log.now.batches
-        visit.now.group visit.now.member (named_from log.now.start visit.now.acks) (held_in W.held windows.old.entries visit.now.group) states.old states.new
+        visit.now.group visit.now.member (named_from log.now.start visit.now.acks) (held_in W.held windows.old.entries visit.now.group) tidies states.old states.new
         ((other : List ℕ) → held_in W.held windows.new.entries other ≡ held_in W.held windows.old.entries other)
         ((other : List ℕ) → held_in W.held windows.new.entries other ≡ with_held (held_in W.held windows.old.entries) visit.now.group
         (held_after (named_from log.now.start visit.now.acks) (held_in W.held windows.old.entries visit.now.group)) other)) result }

@@ -202,7 +202,7 @@ pub fn release_held<D: Disk, W: Window>(
     requires room { 6000 ≤ states.old.room }
     ensures once { StoresGroup D.seen (HasFailed D.seen) conf.now log.now.batches
         group.now (releasing (is_chosen whose.now) (held_in W.held windows.old.entries group.now)) (held_in W.held windows.old.entries group.now)
-        states.old states.new
+        true states.old states.new
         ((other : List ℕ) → held_in W.held windows.new.entries other ≡ held_in W.held windows.old.entries other)
         ((other : List ℕ) → held_in W.held windows.new.entries other ≡ with_held (held_in W.held windows.old.entries) group.now
         (held_after (releasing (is_chosen whose.now) (held_in W.held windows.old.entries group.now)) (held_in W.held windows.old.entries group.now))

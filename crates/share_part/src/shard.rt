@@ -1,4 +1,4 @@
-ghost use Rattle.std.specs.Prelude.{◌≡◌, ◌≢◌, ◌↔◌, ◌≤◌, ◌<◌, ◌^◌, ℕ, length, Ok, IsErr, IsOk, IsSome, None, OnErr, OnOk, max, true, IfOk, IfErr, IfSome, MatchResult, slice_get, ◌⊎◌};
+ghost use Rattle.std.specs.Prelude.{◌≡◌, ◌≢◌, ◌↔◌, ◌≤◌, ◌<◌, ◌^◌, ℕ, length, Ok, IsErr, IsOk, IsSome, None, OnErr, OnOk, max, true, false, IfOk, IfErr, IfSome, MatchResult, slice_get, ◌⊎◌};
 ghost use Rattle.std.specs.List.{AllByRecursion};
 ghost use Rattle.std.specs.Map.{keys_of};
 ghost use Rattle.std.specs.Option.{option_copied, option_map};
@@ -10,6 +10,7 @@ ghost use Rattle.share_model.specs.Logs.{end_of};
 ghost use Rattle.share_model.specs.declared.fault.LogFault.{LogFault};
 ghost use Rattle.part_log.specs.Logs.{log_in};
 ghost use Rattle.coord_checkpoint.specs.Disks.{RunsBoth};
+ghost use Rattle.coord_checkpoint.specs.Writes.{StaysOn};
 ghost use Rattle.edge_io.specs.Moments.{LeavesOnly, LeavesPairs};
 ghost use Rattle.gate_journal.specs.Frames.{StandsAs};
 ghost use Rattle.share_part.specs.Failures.{RunOnBoth};
@@ -27,6 +28,7 @@ ghost use Rattle.share_part.specs.Offering.{offer_of};
 ghost use Rattle.share_part.specs.Tables.{table_of};
 ghost use Rattle.share_part.specs.Shards.{Carries, PartShardState, held_in, placed_at, spare_of};
 ghost use Rattle.share_part.specs.Releasing.{ReleasesOnce};
+ghost use Rattle.share_part.specs.Storing.{answer_to};
 ghost use Rattle.share_part.specs.Visits.{acks_alone, told_alone};
 ghost use Rattle.share_part.specs.Walks.{IsSmallGrant};
 ghost use Rattle.share_part.specs.Once.{ExpiresOnce, FollowsOnce, VisitsOnce, ProducesOnce};
@@ -356,7 +358,7 @@ impl<D: Disk, W: Window> PartShard<D, W> {
         requires now { now ≤ 2 ^ 62 }
         requires table { IsFetch visit.now.then →
             share_state_at (states_of self.old.states.entries) (key_of self.old.conf visit.now.group) ≡ None }
-        ensures once { VisitsOnce D.seen W.held now visit.now self.old self.new result }
+        ensures once { VisitsOnce D.seen W.held now true visit.now self.old self.new result }
         ensures runs { RunOnBoth D.seen self.old.states self.new.states }
         ensures ranges { IfOk result (λ answer. AllByRecursion IsSmallGrant answer.grants) }
     {
@@ -395,7 +397,7 @@ impl<D: Disk, W: Window> PartShard<D, W> {
         requires fetch { visit.now.then ≡ Then.Fetch limits.records limits.bytes limits.first }
         requires table { IsSome
             (share_state_at (states_of self.old.states.entries) (key_of self.old.conf visit.now.group)) }
-        ensures once { VisitsOnce D.seen W.held now visit.now self.old self.new result }
+        ensures once { VisitsOnce D.seen W.held now true visit.now self.old self.new result }
         ensures runs { RunOnBoth D.seen self.old.states self.new.states }
         ensures ranges { IfOk result (λ answer. AllByRecursion IsSmallGrant answer.grants) }
     {
@@ -452,7 +454,7 @@ impl<D: Disk, W: Window> PartShard<D, W> {
     /// none. After want of memory nothing has changed, and no disk was called.
     pub fn visit(&mut self, now: u64, visit: &Visit) -> Result<VisitAnswer, NoMemory>
         requires now { now ≤ 2 ^ 62 }
-        ensures once { VisitsOnce D.seen W.held now visit.now self.old self.new result }
+        ensures once { VisitsOnce D.seen W.held now true visit.now self.old self.new result }
         ensures runs { RunOnBoth D.seen self.old.states self.new.states }
         ensures ranges { IfOk result (λ answer. AllByRecursion IsSmallGrant answer.grants) }
     {
@@ -506,12 +508,13 @@ impl<D: Disk, W: Window> PartShard<D, W> {
         requires now { now ≤ 2 ^ 62 }
         requires few { length acks.now < 2 ^ 32 }
         requires few_types { types_in acks.now < 2 ^ 32 }
-        ensures once { VisitsOnce D.seen W.held now (acks_alone group.now member.now acks.now)
+        ensures once { VisitsOnce D.seen W.held now false (acks_alone group.now member.now acks.now)
             self.old self.new (Ok (told_alone result)) }
         ensures any_moment { (old : PartShardState) → Carries D.seen W.held self.old old → LeavesPairs D.seen
             self.old.states.journal.first.disk self.new.states.journal.first.disk
             self.old.states.journal.second.disk self.new.states.journal.second.disk
             (AreWithinAcks self.old.conf old (acks_alone group.now member.now acks.now)) }
+        ensures alone { StaysOn D.seen self.old.states.journal self.new.states.journal (answer_to result) }
         ensures spare { spare_of self.new ≡ spare_of self.old }
         ensures runs { RunOnBoth D.seen self.old.states self.new.states }
     {

@@ -1,9 +1,11 @@
 // Stores what acts change.
-ghost use Rattle.std.specs.Prelude.{◌≡◌, ◌≤◌, ◌^◌, pos, IfSome, None, false};
+ghost use Rattle.std.specs.Prelude.{◌≡◌, ◌≤◌, ◌^◌, pos, IfSome, None, false, true};
 ghost use Rattle.coord_checkpoint.specs.Disks.{HasFailed};
+ghost use Rattle.coord_checkpoint.specs.Writes.{StaysOn};
 ghost use Rattle.share_coord.specs.Calls.{write_refusal};
 ghost use Rattle.share_coord.specs.Stored.{kept_at};
-ghost use Rattle.share_part.specs.Storing.{IsRecordOf, IsReserved, IsStored, StoresOnce, WritesWithin, start_number};
+ghost use Rattle.share_part.specs.Acknowledging.{IsRecordOf, start_number};
+ghost use Rattle.share_part.specs.Storing.{IsReserved, IsStored, StoresOnce, WritesWithin, answer_of};
 ghost use Rattle.share_part.specs.Failures.{RunOnBoth};
 
 use edge_io::Disk;
@@ -33,8 +35,9 @@ fn store_alone<D: Disk>(
     requires reserved { IsReserved states.old.entries key.now runs.now states.old.room }
     ensures once { StoresOnce D.seen (HasFailed D.seen)
         (IsStored states.old.entries key.now start runs.now) (IsRecordOf states.old.entries key.now start runs.now)
-        states.old states.new result }
+        false states.old states.new result }
     ensures moments { WritesWithin D.seen (IsStored states.old.entries key.now start runs.now) states.old states.new }
+    ensures alone { StaysOn D.seen states.old.journal states.new.journal (answer_of result) }
     ensures room { states.new.room ≡ states.old.room }
     ensures runs { RunOnBoth D.seen states.old states.new }
 {
@@ -56,7 +59,7 @@ fn store_tidied<D: Disk>(
     requires reserved { IsReserved states.old.entries key.now runs.now states.old.room }
     ensures once { StoresOnce D.seen (HasFailed D.seen)
         (IsStored states.old.entries key.now start runs.now) (IsRecordOf states.old.entries key.now start runs.now)
-        states.old states.new result }
+        true states.old states.new result }
     ensures room { states.new.room ≡ states.old.room }
     ensures runs { RunOnBoth D.seen states.old states.new }
 {
@@ -82,9 +85,10 @@ pub fn store_change<D: Disk>(
     requires reserved { IsReserved states.old.entries key.now runs.now states.old.room }
     ensures once { StoresOnce D.seen (HasFailed D.seen)
         (IsStored states.old.entries key.now start runs.now) (IsRecordOf states.old.entries key.now start runs.now)
-        states.old states.new result }
+        tidies states.old states.new result }
     ensures moments { tidies ≡ false →
         WritesWithin D.seen (IsStored states.old.entries key.now start runs.now) states.old states.new }
+    ensures alone { tidies ≡ false → StaysOn D.seen states.old.journal states.new.journal (answer_of result) }
     ensures room { states.new.room ≡ states.old.room }
     ensures runs { RunOnBoth D.seen states.old states.new }
 {

@@ -24,6 +24,6 @@ returns-clause-once g c =
     let group = c.args.visit.now.group in
     subst (λ (l : List AckBatch). AcksOnce c.args.log.now.start l ((c.settle_given.new.states ≡ c.args.states.now) × ((other : List ℕ) → after other ≡ held other))
     (SettlesGroup g.D.Disk.seen (HasFailed g.D.Disk.seen) c.args.conf.now c.args.log.now.batches group c.args.visit.now.member (named_from c.args.log.now.start l) (held group)
-    c.args.states.now c.settle_given.new.states ((other : List ℕ) → after other ≡ held other)
+    c.args.tidies c.args.states.now c.settle_given.new.states ((other : List ℕ) → after other ≡ held other)
     ((other : List ℕ) → after other ≡ with_held held group (held_after (named_from c.args.log.now.start l) (held group)) other)) c.settle_given.result)
     c.as_slice.ensures.items c.settle_given.ensures.once

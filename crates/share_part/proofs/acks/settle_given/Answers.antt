@@ -1,5 +1,8 @@
-use Rattle.std.proofs.Common.{◌≡◌, inr, refl, subst, ℕ, List}
+use Rattle.std.proofs.Common.{◌≡◌, inr, refl, subst, ℕ, List, Option}
 use Rattle.coord_checkpoint.specs.Disks.{HasFailed}
+use Rattle.coord_checkpoint.specs.Writes.{StaysOn}
+use Rattle.share_model.specs.declared.fault.StoreFault.{StoreFault}
+use Rattle.share_part.specs.Storing.{answer_of}
 use Rattle.part_log.specs.Logs.{log_in}
 use Rattle.share_model.specs.ForeignRules.{share_state_at}
 use Rattle.share_part.specs.Foreseeing.{JudgesGiven}
@@ -39,7 +42,7 @@ returns-in-Some-clause-once g c =
           j.1,
           none_stored c.args.conf.now c.args.log.now.batches c.args.group.now (named_from c.args.log.now.start c.args.batches.now) (held_in g.W.Window.held c.args.windows.now.entries c.args.group.now) c.args.states.now
               c.requires.sound c.requires.limit.few c.requires.hosted c.requires.well (change_of c.in-Changes.moved c.args.rows.now.list) j.3 c.key-key.result c.list.result.now c.key-key.ensures c.list.ensures.same
-              g.D.Disk.seen (HasFailed g.D.Disk.seen) c.store_change-fault.new.states c.store_change-fault.result c.in-Some.fault c.in-Some.is c.store_change-fault.ensures.once,
+              g.D.Disk.seen (HasFailed g.D.Disk.seen) c.args.tidies c.store_change-fault.new.states c.store_change-fault.result c.in-Some.fault c.in-Some.is c.store_change-fault.ensures.once,
           λ other. refl,
         ),
       ),
@@ -60,7 +63,7 @@ returns-clause-once g c =
           j.1,
           all_stored c.args.conf.now c.args.log.now.batches c.args.group.now (named_from c.args.log.now.start c.args.batches.now) (held_in g.W.Window.held c.args.windows.now.entries c.args.group.now) c.args.states.now
               c.requires.sound c.requires.limit.few c.requires.hosted c.requires.well (change_of c.in-Changes.moved c.args.rows.now.list) j.3 c.key-key.result c.list.result.now c.key-key.ensures c.list.ensures.same
-              g.D.Disk.seen (HasFailed g.D.Disk.seen) c.store_change-fault.new.states c.store_change-fault.result c.in_default.is c.store_change-fault.ensures.once,
+              g.D.Disk.seen (HasFailed g.D.Disk.seen) c.args.tidies c.store_change-fault.new.states c.store_change-fault.result c.in_default.is c.store_change-fault.ensures.once,
           subst Behind c.start.ensures.value c.end_acknowledged.ensures.held,
         ),
       ),
@@ -98,3 +101,22 @@ returns-clause-moments g c = λ alone.
     acks_within g.D.Disk.seen c.args.conf.now (log_in c.args.log.now) c.args.group.now c.args.member.now c.args.batches.now (held_in g.W.Window.held c.args.windows.now.entries c.args.group.now)
     c.args.states.now c.store_change-fault.new.states (change_of c.in-Changes.moved c.args.rows.now.list) j.0 j.2 j.3 c.key-key.result c.list.result.now c.key-key.ensures c.list.ensures.same
     (c.store_change-fault.ensures.moments alone)
+
+pub returns-in-Malformed-clause-alone : goal.returns-in-Malformed-clause-alone
+returns-in-Malformed-clause-alone g c = λ alone. record { same = refl; other = λ low. refl; quiet = λ told. refl }
+
+pub returns-in-Empty-clause-alone : goal.returns-in-Empty-clause-alone
+returns-in-Empty-clause-alone g c = λ alone. record { same = refl; other = λ low. refl; quiet = λ told. refl }
+
+pub returns-in-NotHeld-clause-alone : goal.returns-in-NotHeld-clause-alone
+returns-in-NotHeld-clause-alone g c = λ alone. record { same = refl; other = λ low. refl; quiet = λ told. refl }
+
+pub returns-in-Some-clause-alone : goal.returns-in-Some-clause-alone
+returns-in-Some-clause-alone g c = λ alone.
+    subst (λ (o : Option StoreFault). StaysOn g.D.Disk.seen c.args.states.now.journal c.store_change-fault.new.states.journal (answer_of o)) c.in-Some.is
+    (c.store_change-fault.ensures.alone alone)
+
+pub returns-clause-alone : goal.returns-clause-alone
+returns-clause-alone g c = λ alone.
+    subst (λ (o : Option StoreFault). StaysOn g.D.Disk.seen c.args.states.now.journal c.store_change-fault.new.states.journal (answer_of o)) c.in_default.is
+    (c.store_change-fault.ensures.alone alone)

@@ -1,4 +1,4 @@
-use Rattle.std.proofs.Common.{◌≡◌, inr, refl, sym, ℕ, List}
+use Rattle.std.proofs.Common.{◌≡◌, inr, refl, sym, true, ℕ, List}
 use Rattle.coord_checkpoint.specs.Disks.{HasFailed}
 use Rattle.share_model.specs.ForeignRules.{share_state_at}
 use Rattle.share_part.specs.Hosting.{key_of}
@@ -36,7 +36,7 @@ returns-in-Some-fault-clause-once g c = (
       c.requires.sound c.requires.limit.few c.requires.hosted c.requires.well (change_of c.in-Some.moved c.judge_release-judged.new.rows.list)
       (change_of_group c.args.conf.now.limit (is_chosen c.args.whose.now) c.args.log.now.batches (held_in g.W.Window.held c.args.windows.now.entries c.args.group.now)
       (share_state_at (states_of c.args.states.now.entries) (key_of c.args.conf.now c.args.group.now)) c.judge_release-judged.new.rows.list c.judge_release-judged.result c.in-Some.moved c.in-Some.is c.judge_release-judged.ensures.judged) c.key-key.result c.list.result.now c.key-key.ensures c.list.ensures.same
-      g.D.Disk.seen (HasFailed g.D.Disk.seen) c.store_change-fault.new.states c.store_change-fault.result c.in-Some-fault.fault c.in-Some-fault.is c.store_change-fault.ensures.once,
+      g.D.Disk.seen (HasFailed g.D.Disk.seen) true c.store_change-fault.new.states c.store_change-fault.result c.in-Some-fault.fault c.in-Some-fault.is c.store_change-fault.ensures.once,
   λ other. refl,
 )
 
@@ -48,7 +48,7 @@ returns-clause-once g c = inr (
       c.requires.sound c.requires.limit.few c.requires.hosted c.requires.well (change_of c.in-Some.moved c.judge_release-judged.new.rows.list)
       (change_of_group c.args.conf.now.limit (is_chosen c.args.whose.now) c.args.log.now.batches (held_in g.W.Window.held c.args.windows.now.entries c.args.group.now)
       (share_state_at (states_of c.args.states.now.entries) (key_of c.args.conf.now c.args.group.now)) c.judge_release-judged.new.rows.list c.judge_release-judged.result c.in-Some.moved c.in-Some.is c.judge_release-judged.ensures.judged) c.key-key.result c.list.result.now c.key-key.ensures c.list.ensures.same
-      g.D.Disk.seen (HasFailed g.D.Disk.seen) c.store_change-fault.new.states c.store_change-fault.result c.in_default-fault.is c.store_change-fault.ensures.once,
+      g.D.Disk.seen (HasFailed g.D.Disk.seen) true c.store_change-fault.new.states c.store_change-fault.result c.in_default-fault.is c.store_change-fault.ensures.once,
   c.end_released.ensures.held,
 )
 

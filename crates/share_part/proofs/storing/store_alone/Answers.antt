@@ -32,3 +32,9 @@ returns-in-Err-clause-moments g c =
     let same : to_z w64 (of_z w64 c.start_number.result) ≡ c.start_number.result = grind (arith, to_z-of_z) in
     moments_own c.args.states.now.entries c.args.key.now c.args.start _ c.args.runs.now c.args.states.now.room (same ∙ c.start_number.ensures) c.requires.reserved
     g.D.Disk.seen c.args.states.now c.write_reserved.new.self (Err c.in-Err.fault) c.in-Err.ensures.once
+
+pub returns-in-Ok-clause-alone : goal.returns-in-Ok-clause-alone
+returns-in-Ok-clause-alone g c = let a = c.in-Ok.ensures.alone in record { same = a.same; other = a.other; quiet = a.quiet }
+
+pub returns-in-Err-clause-alone : goal.returns-in-Err-clause-alone
+returns-in-Err-clause-alone g c = let a = c.in-Err.ensures.alone in record { same = a.same; other = a.other; quiet = tt }

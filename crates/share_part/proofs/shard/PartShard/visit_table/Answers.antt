@@ -1,6 +1,6 @@
 use Rattle.std.proofs.Common.{◌≡◌, ◌∙◌, ◌+◌, ◌++◌, ◌≤◌, ◌<◌, refl, sym, ap, subst, arith, rules, length, List, [], ℕ}
 use Rattle.std.specs.List.{AllByRecursion}
-use Rattle.std.specs.Prelude.{Ok, IsSome}
+use Rattle.std.specs.Prelude.{Ok, IsSome, true}
 use Rattle.edge_io.specs.Disk.{IsTold}
 use Rattle.part_log.specs.Logs.{IsStoredLog, log_in}
 use Rattle.part_log.specs.Starts.{Log}
@@ -55,7 +55,7 @@ append_batches-requires-clause-numbers g c = let goes = (goes_by g.D.Disk.seen g
     c.args.limits (subst (λ (p : PartParts g.row.D.Denot g.row.W.Denot). IsSome (share_state_at (states_of p.states.entries) (key_of p.conf c.args.visit.now.group))) (sym c.self.view_is) c.requires.table)
     c.judge_acks-acks.new.rows.list c.judge_acks-acks.result c.in_ok-ready.ready.stays c.in_ok-ready.ready.moves c.judge_acks-acks.ensures.judged
     c.in_ok-ready.ensures.ready.stays c.in_ok-ready.ensures.ready.moves c.chosen-plan.result.0 c.settle_acks-ack.result
-    (acked_from g.D.Disk.seen g.W.Window.held c.args.visit.now
+    (acked_from true g.D.Disk.seen g.W.Window.held c.args.visit.now
     (record { conf = c.self.inside.conf; log = c.self.inside.log; states = c.self.inside.states; windows = c.self.inside.windows.entries; clock = c.self.inside.clock })
     c.settle_acks-ack.new.states c.settle_acks-ack.new.windows.entries c.self.invariant.log_is c.settle_acks-ack.ensures.range.few c.self.invariant.hosted c.self.invariant.holds
     (held_in g.W.Window.held c.ready.new.windows.entries) c.in_ok-ready.ensures.held c.settle_acks-ack.result c.settle_acks-ack.ensures.once)
@@ -70,7 +70,7 @@ append_batches-requires-clause-spare g c = let goes = (goes_by g.D.Disk.seen g.W
     c.args.limits (subst (λ (p : PartParts g.row.D.Denot g.row.W.Denot). IsSome (share_state_at (states_of p.states.entries) (key_of p.conf c.args.visit.now.group))) (sym c.self.view_is) c.requires.table)
     c.judge_acks-acks.new.rows.list c.judge_acks-acks.result c.in_ok-ready.ready.stays c.in_ok-ready.ready.moves c.judge_acks-acks.ensures.judged
     c.in_ok-ready.ensures.ready.stays c.in_ok-ready.ensures.ready.moves c.chosen-plan.result.0 c.settle_acks-ack.result
-    (acked_from g.D.Disk.seen g.W.Window.held c.args.visit.now
+    (acked_from true g.D.Disk.seen g.W.Window.held c.args.visit.now
     (record { conf = c.self.inside.conf; log = c.self.inside.log; states = c.self.inside.states; windows = c.self.inside.windows.entries; clock = c.self.inside.clock })
     c.settle_acks-ack.new.states c.settle_acks-ack.new.windows.entries c.self.invariant.log_is c.settle_acks-ack.ensures.range.few c.self.invariant.hosted c.self.invariant.holds
     (held_in g.W.Window.held c.ready.new.windows.entries) c.in_ok-ready.ensures.held c.settle_acks-ack.result c.settle_acks-ack.ensures.once)
@@ -84,10 +84,10 @@ append_batches-requires-clause-spare g c = let goes = (goes_by g.D.Disk.seen g.W
 
 pub invariant_of-self-in-Err : goal.invariant_of-self-in-Err
 invariant_of-self-in-Err g c =
-    let s = stands g.D.Disk.seen g.W.Window.held c.args.visit.now
+    let s = stands true g.D.Disk.seen g.W.Window.held c.args.visit.now
     (record { conf = c.self.inside.conf; log = c.self.inside.log; states = c.self.inside.states; windows = c.self.inside.windows.entries; clock = c.self.inside.clock })
     c.settle_acks-ack.new.states c.settle_acks-ack.new.windows.entries c.self.invariant.log_is c.settle_acks-ack.ensures.range.few c.self.invariant.hosted c.self.invariant.holds c.settle_acks-ack.result
-    (acked_from g.D.Disk.seen g.W.Window.held c.args.visit.now
+    (acked_from true g.D.Disk.seen g.W.Window.held c.args.visit.now
     (record { conf = c.self.inside.conf; log = c.self.inside.log; states = c.self.inside.states; windows = c.self.inside.windows.entries; clock = c.self.inside.clock })
     c.settle_acks-ack.new.states c.settle_acks-ack.new.windows.entries c.self.invariant.log_is c.settle_acks-ack.ensures.range.few c.self.invariant.hosted c.self.invariant.holds
     (held_in g.W.Window.held c.ready.new.windows.entries) c.in_ok-ready.ensures.held c.settle_acks-ack.result c.settle_acks-ack.ensures.once) in
@@ -109,17 +109,17 @@ returns-in-Err-clause-once g c =
     c.args.limits (subst (λ (p : PartParts g.row.D.Denot g.row.W.Denot). IsSome (share_state_at (states_of p.states.entries) (key_of p.conf c.args.visit.now.group))) (sym c.self.view_is) c.requires.table)
     c.judge_acks-acks.new.rows.list c.judge_acks-acks.result c.in_ok-ready.ready.stays c.in_ok-ready.ready.moves c.judge_acks-acks.ensures.judged
     c.in_ok-ready.ensures.ready.stays c.in_ok-ready.ensures.ready.moves c.chosen-plan.result.0 c.settle_acks-ack.result
-    (acked_from g.D.Disk.seen g.W.Window.held c.args.visit.now
+    (acked_from true g.D.Disk.seen g.W.Window.held c.args.visit.now
     (record { conf = c.self.inside.conf; log = c.self.inside.log; states = c.self.inside.states; windows = c.self.inside.windows.entries; clock = c.self.inside.clock })
     c.settle_acks-ack.new.states c.settle_acks-ack.new.windows.entries c.self.invariant.log_is c.settle_acks-ack.ensures.range.few c.self.invariant.hosted c.self.invariant.holds
     (held_in g.W.Window.held c.ready.new.windows.entries) c.in_ok-ready.ensures.held c.settle_acks-ack.result c.settle_acks-ack.ensures.once)
     c.settle_acks-ack.ensures.malformed c.chosen-plan.ensures.done c.chosen-plan.ensures.others) in
-    rw (← c.self.view_is) (subst (λ (a : VisitAnswer). VisitsOnce g.D.Disk.seen g.W.Window.held c.args.now c.args.visit.now
+    rw (← c.self.view_is) (subst (λ (a : VisitAnswer). VisitsOnce g.D.Disk.seen g.W.Window.held c.args.now true c.args.visit.now
     (record { conf = c.self.inside.conf; log = c.self.inside.log; states = c.self.inside.states; windows = c.self.inside.windows.entries; clock = c.self.inside.clock }) (record { conf = c.self.inside.conf; log = c.append_batches.new.log; states = c.settle_acks-ack.new.states; windows = c.settle_acks-ack.new.windows.entries; clock = c.max-self-inside.result }) (Ok a)) (sym c.with_ack.ensures)
-    (visited g.D.Disk.seen g.W.Window.held c.args.visit.now
+    (visited true g.D.Disk.seen g.W.Window.held c.args.visit.now
     (record { conf = c.self.inside.conf; log = c.self.inside.log; states = c.self.inside.states; windows = c.self.inside.windows.entries; clock = c.self.inside.clock })
     c.settle_acks-ack.new.states c.settle_acks-ack.new.windows.entries c.self.invariant.log_is c.settle_acks-ack.ensures.range.few c.self.invariant.hosted c.self.invariant.holds c.args.now (record { conf = c.self.inside.conf; log = c.append_batches.new.log; states = c.settle_acks-ack.new.states; windows = c.settle_acks-ack.new.windows.entries; clock = c.max-self-inside.result }) c.settle_acks-ack.result
-    (acked_from g.D.Disk.seen g.W.Window.held c.args.visit.now
+    (acked_from true g.D.Disk.seen g.W.Window.held c.args.visit.now
     (record { conf = c.self.inside.conf; log = c.self.inside.log; states = c.self.inside.states; windows = c.self.inside.windows.entries; clock = c.self.inside.clock })
     c.settle_acks-ack.new.states c.settle_acks-ack.new.windows.entries c.self.invariant.log_is c.settle_acks-ack.ensures.range.few c.self.invariant.hosted c.self.invariant.holds
     (held_in g.W.Window.held c.ready.new.windows.entries) c.in_ok-ready.ensures.held c.settle_acks-ack.result c.settle_acks-ack.ensures.once)
@@ -139,7 +139,7 @@ hand_out-answer-requires-clause-plan g c = (
       c.args.limits (subst (λ (p : PartParts g.row.D.Denot g.row.W.Denot). IsSome (share_state_at (states_of p.states.entries) (key_of p.conf c.args.visit.now.group))) (sym c.self.view_is) c.requires.table)
       c.judge_acks-acks.new.rows.list c.judge_acks-acks.result c.in_ok-ready.ready.stays c.in_ok-ready.ready.moves c.judge_acks-acks.ensures.judged
       c.in_ok-ready.ensures.ready.stays c.in_ok-ready.ensures.ready.moves c.chosen-plan.result.0 c.settle_acks-ack.result
-      (acked_from g.D.Disk.seen g.W.Window.held c.args.visit.now
+      (acked_from true g.D.Disk.seen g.W.Window.held c.args.visit.now
       (record { conf = c.self.inside.conf; log = c.self.inside.log; states = c.self.inside.states; windows = c.self.inside.windows.entries; clock = c.self.inside.clock })
       c.settle_acks-ack.new.states c.settle_acks-ack.new.windows.entries c.self.invariant.log_is c.settle_acks-ack.ensures.range.few c.self.invariant.hosted c.self.invariant.holds
       (held_in g.W.Window.held c.ready.new.windows.entries) c.in_ok-ready.ensures.held c.settle_acks-ack.result c.settle_acks-ack.ensures.once)
@@ -148,10 +148,10 @@ hand_out-answer-requires-clause-plan g c = (
 
 pub invariant_of-self-2 : goal.invariant_of-self-2
 invariant_of-self-2 g c =
-    let s = stands g.D.Disk.seen g.W.Window.held c.args.visit.now
+    let s = stands true g.D.Disk.seen g.W.Window.held c.args.visit.now
     (record { conf = c.self.inside.conf; log = c.self.inside.log; states = c.self.inside.states; windows = c.self.inside.windows.entries; clock = c.self.inside.clock })
     c.settle_acks-ack.new.states c.settle_acks-ack.new.windows.entries c.self.invariant.log_is c.settle_acks-ack.ensures.range.few c.self.invariant.hosted c.self.invariant.holds c.settle_acks-ack.result
-    (acked_from g.D.Disk.seen g.W.Window.held c.args.visit.now
+    (acked_from true g.D.Disk.seen g.W.Window.held c.args.visit.now
     (record { conf = c.self.inside.conf; log = c.self.inside.log; states = c.self.inside.states; windows = c.self.inside.windows.entries; clock = c.self.inside.clock })
     c.settle_acks-ack.new.states c.settle_acks-ack.new.windows.entries c.self.invariant.log_is c.settle_acks-ack.ensures.range.few c.self.invariant.hosted c.self.invariant.holds
     (held_in g.W.Window.held c.ready.new.windows.entries) c.in_ok-ready.ensures.held c.settle_acks-ack.result c.settle_acks-ack.ensures.once) in
@@ -161,7 +161,7 @@ invariant_of-self-2 g c =
     c.args.limits (subst (λ (p : PartParts g.row.D.Denot g.row.W.Denot). IsSome (share_state_at (states_of p.states.entries) (key_of p.conf c.args.visit.now.group))) (sym c.self.view_is) c.requires.table)
     c.judge_acks-acks.new.rows.list c.judge_acks-acks.result c.in_ok-ready.ready.stays c.in_ok-ready.ready.moves c.judge_acks-acks.ensures.judged
     c.in_ok-ready.ensures.ready.stays c.in_ok-ready.ensures.ready.moves c.chosen-plan.result.0 c.settle_acks-ack.result
-    (acked_from g.D.Disk.seen g.W.Window.held c.args.visit.now
+    (acked_from true g.D.Disk.seen g.W.Window.held c.args.visit.now
     (record { conf = c.self.inside.conf; log = c.self.inside.log; states = c.self.inside.states; windows = c.self.inside.windows.entries; clock = c.self.inside.clock })
     c.settle_acks-ack.new.states c.settle_acks-ack.new.windows.entries c.self.invariant.log_is c.settle_acks-ack.ensures.range.few c.self.invariant.hosted c.self.invariant.holds
     (held_in g.W.Window.held c.ready.new.windows.entries) c.in_ok-ready.ensures.held c.settle_acks-ack.result c.settle_acks-ack.ensures.once)
@@ -194,7 +194,7 @@ returns-clause-once g c =
     c.args.limits (subst (λ (p : PartParts g.row.D.Denot g.row.W.Denot). IsSome (share_state_at (states_of p.states.entries) (key_of p.conf c.args.visit.now.group))) (sym c.self.view_is) c.requires.table)
     c.judge_acks-acks.new.rows.list c.judge_acks-acks.result c.in_ok-ready.ready.stays c.in_ok-ready.ready.moves c.judge_acks-acks.ensures.judged
     c.in_ok-ready.ensures.ready.stays c.in_ok-ready.ensures.ready.moves c.chosen-plan.result.0 c.settle_acks-ack.result
-    (acked_from g.D.Disk.seen g.W.Window.held c.args.visit.now
+    (acked_from true g.D.Disk.seen g.W.Window.held c.args.visit.now
     (record { conf = c.self.inside.conf; log = c.self.inside.log; states = c.self.inside.states; windows = c.self.inside.windows.entries; clock = c.self.inside.clock })
     c.settle_acks-ack.new.states c.settle_acks-ack.new.windows.entries c.self.invariant.log_is c.settle_acks-ack.ensures.range.few c.self.invariant.hosted c.self.invariant.holds
     (held_in g.W.Window.held c.ready.new.windows.entries) c.in_ok-ready.ensures.held c.settle_acks-ack.result c.settle_acks-ack.ensures.once)
@@ -206,12 +206,12 @@ returns-clause-once g c =
     let none : length c.chosen-plan.result.1.bytes ≡ 0 = ap length empty in
     let len : length c.hand_out-answer.result.batches ≤ length (numbered_bytes c.self.inside.log.batches c.chosen-plan.result.0.numbers.items) =
     omega (arith, size, none, ap length c.hand_out-answer.ensures.batches, ap (λ (l : List ℕ). length (numbered_bytes c.self.inside.log.batches l)) c.deref.ensures.value) in
-    rw (← c.self.view_is) (subst (λ (a : VisitAnswer). VisitsOnce g.D.Disk.seen g.W.Window.held c.args.now c.args.visit.now
+    rw (← c.self.view_is) (subst (λ (a : VisitAnswer). VisitsOnce g.D.Disk.seen g.W.Window.held c.args.now true c.args.visit.now
     (record { conf = c.self.inside.conf; log = c.self.inside.log; states = c.self.inside.states; windows = c.self.inside.windows.entries; clock = c.self.inside.clock }) (record { conf = c.self.inside.conf; log = c.append_batches.new.log; states = c.settle_acks-ack.new.states; windows = c.hand_out-answer.new.windows.entries; clock = c.max-self-inside.result }) (Ok a)) (sym c.with_ack-2.ensures)
-    (visited g.D.Disk.seen g.W.Window.held c.args.visit.now
+    (visited true g.D.Disk.seen g.W.Window.held c.args.visit.now
     (record { conf = c.self.inside.conf; log = c.self.inside.log; states = c.self.inside.states; windows = c.self.inside.windows.entries; clock = c.self.inside.clock })
     c.settle_acks-ack.new.states c.settle_acks-ack.new.windows.entries c.self.invariant.log_is c.settle_acks-ack.ensures.range.few c.self.invariant.hosted c.self.invariant.holds c.args.now (record { conf = c.self.inside.conf; log = c.append_batches.new.log; states = c.settle_acks-ack.new.states; windows = c.hand_out-answer.new.windows.entries; clock = c.max-self-inside.result }) c.settle_acks-ack.result
-    (acked_from g.D.Disk.seen g.W.Window.held c.args.visit.now
+    (acked_from true g.D.Disk.seen g.W.Window.held c.args.visit.now
     (record { conf = c.self.inside.conf; log = c.self.inside.log; states = c.self.inside.states; windows = c.self.inside.windows.entries; clock = c.self.inside.clock })
     c.settle_acks-ack.new.states c.settle_acks-ack.new.windows.entries c.self.invariant.log_is c.settle_acks-ack.ensures.range.few c.self.invariant.hosted c.self.invariant.holds
     (held_in g.W.Window.held c.ready.new.windows.entries) c.in_ok-ready.ensures.held c.settle_acks-ack.result c.settle_acks-ack.ensures.once)
