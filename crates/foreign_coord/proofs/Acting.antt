@@ -195,15 +195,21 @@ module _ {D T : Type 0} (seen : D → DiskView) (op : ForeignOp) (old new : Stor
       ⊎_elim (λ h. (
         shard_of old pending,
         Some Device,
-        carries_on seen old new pending once.same h (still_unraised (Store Device) once pending never),
+        carries_on seen old new pending once.same h.1 (still_unraised (Store Device) once pending never),
         (refl, rose, record { granted = granted; same = refl; pending = inl refl }),
+      ))
+      (λ other. ⊎_elim (λ none. (
+        shard_of old None,
+        Some Device,
+        carries_on seen old new None once.same none ((still_unraised (Store Device) once pending never).0, tt),
+        (refl, rose, record { granted = granted; same = refl; pending = inr (inl refl) }),
       ))
       (λ l. (
         shard_of old (Some l.0),
         Some Device,
         carries_on seen old new (Some l.0) once.same l.2 ((still_unraised (Store Device) once pending never).0, plain l.0 l.1 never.0),
-        (refl, rose, record { granted = granted; same = refl; pending = inr (states_of l.0, grants l.0 l.1, refl) }),
-      )) (once.failed pending held))
+        (refl, rose, record { granted = granted; same = refl; pending = inr (inr (states_of l.0, grants l.0 l.1, refl)) }),
+      )) other) (once.failed pending held))
   stored_by (Full end) once puts =
       let f = full_by end once puts in
       carried seen old (Leads seen op old new (code_alone KAFKA_STORAGE_ERROR)) (λ pending held never. (

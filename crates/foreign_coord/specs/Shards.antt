@@ -53,11 +53,11 @@ pub record IsDone (op : ForeignOp) (answer : ForeignAnswer) (old new : ForeignSh
   pub does : Does old.states op answer new.states
   pub pending : new.pending ≡ (if writes old.states op answer then None else old.pending)
 
--- its record could not be stored: the states are as before, and the pending write is the one from before or this one
+-- its record could not be stored: the states are as before, and the pending write is the one from before, or none, or this one
 pub record IsUnstored (op : ForeignOp) (old new : ForeignShardState) : Type 0 where
   pub granted : (lost : ShareStates) × Grants old.states op lost
   pub same : new.states ≡ old.states
-  pub pending : (new.pending ≡ old.pending) ⊎ ((lost : ShareStates) × Grants old.states op lost × (new.pending ≡ Some lost))
+  pub pending : (new.pending ≡ old.pending) ⊎ ((new.pending ≡ None) ⊎ ((lost : ShareStates) × Grants old.states op lost × (new.pending ≡ Some lost)))
 
 -- the one record that a call stores where it is granted and writes
 abbrev pub IsRecordOf : Entries → ForeignOp → StateRecord → Type 0
