@@ -110,7 +110,7 @@ module _ {D : Type 0} (seen : D → DiskView) where
     pub conf : new.conf ≡ old.conf
 
   -- a visit
-  pub visit_on : (old new : OpenPart D) (now : ℕ) (visit : Visit) (result : Result VisitAnswer Want) → VisitsOnce seen holding now visit old new result
+  pub visit_on : (old new : OpenPart D) (now : ℕ) (visit : Visit) (result : Result VisitAnswer Want) → VisitsOnce seen holding now true visit old new result
       → RunOnBoth seen old.states new.states → OnStates old new
   visit_on old new now visit result once runs = record {
     runs = runs;

@@ -227,8 +227,9 @@ module _ (o : ℕ) (row : Row) (closed : is_closed_state row.state ≡ true) whe
       now = subst Kept (sym p.2.states) k.now;
       lost = λ found at. ⊎_elim
           (λ stays. k.lost found (sym stays ∙ at))
+          (λ other. ⊎_elim (λ none. none_lost b none found at)
           (λ own. are_settled_keep a of acts found same
-          (subst (AreSettled conf a of acts) (some_same own.0 found (sym own.1 ∙ at)) own.2) k.free k.now)
+          (subst (AreSettled conf a of acts) (some_same own.0 found (sym own.1 ∙ at)) own.2) k.free k.now) other)
           p.2.pending;
     }
 
@@ -289,7 +290,8 @@ module _ (o : ℕ) (row : Row) (closed : is_closed_state row.state ≡ true) whe
         now = subst Kept (sym p.2.states) k.now;
         lost = λ found at. ⊎_elim
             (λ stays. k.lost found (sym stays ∙ at))
-            (λ own. new_keeps found none k (sym (some_same own.0 found (sym own.1 ∙ at)) ∙ own.2))
+            (λ other. ⊎_elim (λ mended. none_lost b mended found at)
+            (λ own. new_keeps found none k (sym (some_same own.0 found (sym own.1 ∙ at)) ∙ own.2)) other)
             p.2.pending;
       }
 

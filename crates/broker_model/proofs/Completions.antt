@@ -103,13 +103,20 @@ module _ (unfinished : Option ForeignOp) (old new : ForeignShardState) (tied : I
         done = p.2.same;
         tied = tied_same unfinished old new p.2.same stays tied;
       })
+      (λ other. ⊎_elim (λ none. record {
+        calls = [];
+        unfinished = None;
+        by = (refl, inr (inr refl));
+        done = p.2.same;
+        tied = none;
+      })
       (λ own. record {
         calls = [];
         unfinished = Some op;
-        by = (refl, inr refl);
+        by = (refl, inr (inl refl));
         done = p.2.same;
         tied = subst (λ (s : ShareStates). IsPending (Some op) s new.pending) (sym p.2.same) own;
-      })
+      }) other)
       p.2.pending
   did_completes rose end op answer (Some (Full at)) p = record {
     calls = [];

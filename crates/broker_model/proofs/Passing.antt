@@ -281,6 +281,13 @@ module _ (o : ℕ) where
         → Reason ⊎ ((table_at conf b.states group ≡ None) × IsBelow o (table_at conf states group))
     nothing_lost b none states at passed = absurd (none_not states (sym none ∙ at))
 
+    -- what was pending is mended away
+    mended : (a b : PartShardState) → b.states ≡ a.states → b.pending ≡ None → Reasoned a → Reasoned b
+    mended a b states none r = record {
+      now = λ passed. r.now (subst (λ (x : ShareStates). Passed (table_at conf x group)) states passed);
+      lost = nothing_lost b none;
+    }
+
     abbrev Caused : Option StoreFault → List ℕ → Acts → PartShardState → Type 0
     Caused fault of acts a = ((fault ≡ None) ⊎ (fault ≡ Some Device)) → of ≡ group → IsClosedBy conf.limit acts (a.held of) → Reason
 
@@ -297,6 +304,7 @@ module _ (o : ℕ) where
     }
     stored_so rose end a of acts b (Some Device) is_log slot cause p r = ⊎_elim
         (λ same. still a b p.2.states same r)
+        (λ other. ⊎_elim (λ none. mended a b p.2.states none r)
         (λ own. record {
           now = λ passed. r.now (subst (λ (x : ShareStates). Passed (table_at conf x group)) p.2.states passed);
           lost = λ found at passed.
@@ -305,7 +313,7 @@ module _ (o : ℕ) where
               (λ old. inl (r.now old))
               (λ act. inl (cause (inr refl) act.0 act.1))
               (settled_passes conf group a is_log slot of acts found (subst (AreSettled conf a of acts) is own.2) passed);
-        })
+        }) other)
         p.2.pending
 
     -- a new table begins at its start
@@ -335,6 +343,7 @@ module _ (o : ℕ) where
     made_so told rose end a visit limits answer b (then_store (Full at)) none cause p r = still a b p.2.states p.2.pending r
     made_so told rose end a visit limits answer b (then_store Device) none cause p r = ⊎_elim
         (λ same. still a b p.2.states same r)
+        (λ other. ⊎_elim (λ nothing. mended a b p.2.states nothing r)
         (λ own. record {
           now = λ passed. r.now (subst (λ (x : ShareStates). Passed (table_at conf x group)) p.2.states passed);
           lost = λ found at passed.
@@ -352,7 +361,7 @@ module _ (o : ℕ) where
               passed)
               (λ other. inl (r.now (subst Passed (sym (ap (λ (x : ShareStates). table_at conf x group) is) ∙ other) passed)))
               (table_set conf a.states visit.group group (new_state conf (log_at a.log)));
-        })
+        }) other)
         p.2.pending
 
     fetched_so : (told : Bool) (rose : Type 0) (end : ℕ) (a : PartShardState) (visit : Visit) (limits : Limits) (answer : VisitAnswer) (b : PartShardState)

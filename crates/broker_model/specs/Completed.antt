@@ -27,11 +27,11 @@ without_fault (CallForeign op answer (Some fault)) = []
 without_fault (CallPart shard hosted did) = []
 without_fault (CallMembers did) = []
 
--- Which write is unfinished behind a call on these states: none where the call wrote; where it failed on a device, the one from before
--- or its own.
+-- Which write is unfinished behind a call on these states: none where the call wrote; where it failed on a device, the one from before,
+-- or its own, or none.
 abbrev pub Leaves : ShareStates → Option ForeignOp → ShardCall → Option ForeignOp → Type 0
 Leaves states old (CallForeign op answer None) new = new ≡ (if writes states op answer then None else old)
-Leaves states old (CallForeign op answer (Some Device)) new = (new ≡ old) ⊎ (new ≡ Some op)
+Leaves states old (CallForeign op answer (Some Device)) new = (new ≡ old) ⊎ ((new ≡ Some op) ⊎ (new ≡ None))
 Leaves states old (CallForeign op answer (Some (Full end))) new = new ≡ old
 Leaves states old (CallPart shard hosted did) new = new ≡ old
 Leaves states old (CallMembers did) new = new ≡ old

@@ -1,5 +1,5 @@
 -- What a crash at a moment of an act finds.
-use Rattle.std.proofs.Common.{◌≡◌, inl, refl, sym, ap, subst, arith, ℕ, ℤ, List, Result, Ok, Err}
+use Rattle.std.proofs.Common.{◌≡◌, inl, refl, sym, ap, subst, arith, ℕ, ℤ, List, true, Result, Ok, Err}
 use Rattle.edge_io.specs.Moments.{LeavesOnly}
 use Rattle.edge_io.specs.Views.{DiskView}
 use Rattle.flex_fields.specs.declared.fault.NoMemory.{NoMemory}
@@ -47,7 +47,7 @@ module _ {D W : Type 0} (seen : D → DiskView) (holding : W → Held)
   )
 
   module _ (old new : PartParts D W) (now : ℕ) where
-    pub visit_found : (visit : Visit) (result : Result VisitAnswer NoMemory) → VisitsOnce seen holding now visit old new result
+    pub visit_found : (visit : Visit) (result : Result VisitAnswer NoMemory) → VisitsOnce seen holding now true visit old new result
         → FoundWithin seen holding now (asks.Visit visit) old new
     visit_found visit result once = record {
       log = once.log.reads.journal.looks.moments;
