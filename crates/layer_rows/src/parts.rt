@@ -15,6 +15,7 @@
 // | `acknowledge GROUP MEMBER FIRST..LAST:TYPE,TYPE ..` | in memory that is set aside: `done`, `malformed`, `not held OFFSET`, `fails`, `full END` |
 // | `table GROUP` | its start, and the runs of its stored rows |
 // | `offer GROUP` | what a fetch would find: `no table`, `slot OFFSET` or `nothing` |
+// | `faults` | how many calls of each disk failed: `log N, states N N` |
 // | `describe GROUP` | how far it has come: `start N, end N, lag N, held N until MOMENT, ..`, or `held 0, ..`, or `none` |
 use crate::acks::{batches_of, type_count};
 use crate::disks::{mode_of, new_disk, number_text, word_number};
@@ -29,7 +30,7 @@ use share_model::{
     AckList, AckOutcome, DeleteAnswer, Grant, Name, NoMemory, Offer, Reset, StoreFault,
     TableSummary, Then, ThenOutcome, Visit, VisitAnswer,
 };
-use share_part::{PartConf, PartShard};
+use share_part::{PartConf, PartFaultCounts, PartShard};
 use std::alloc::Global;
 use std::{io, mem};
 use uuid::Uuid;
@@ -278,6 +279,12 @@ fn summary_text(
     )?)
 }
 
+/// How many calls of each disk have failed.
+fn faults_text(alloc: Global, shard: &PartShard<MemDisk, WindowRuns>) -> io::Result<String> {
+    let PartFaultCounts { log, states } = shard.faults();
+    Ok(format!(in alloc; "log {log}, states {} {}", states.first, states.second)?)
+}
+
 /// Does a line that names a member of a group. `None` where there is no such line.
 fn on_names(
     alloc: Global,
@@ -312,6 +319,7 @@ fn told_by(
         "table" => table_text(alloc, shard, text),
         "offer" => offer_text(alloc, shard, text),
         "describe" => summary_text(alloc, shard, text),
+        "faults" => faults_text(alloc, shard),
         _ => return on_names(alloc, shard, kind, text),
     };
     Ok(Some(told?))

@@ -34,4 +34,4 @@ pub use laws::{
 };
 pub use limits::Limits;
 pub use opening::{PartFault, PartOpen};
-pub use shard::PartShard;
+pub use shard::{PartFaultCounts, PartShard};

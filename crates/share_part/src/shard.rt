@@ -51,7 +51,7 @@ use flex_fields::Items;
 use lock_index::Window;
 use offset_runs::Runs;
 use part_log::PartLog;
-use share_coord::{Coord, CoordOpen, StateView, States};
+use share_coord::{Coord, CoordOpen, FaultCounts, StateView, States};
 use share_model::{
     AckBatch, AckOutcome, DeleteAnswer, ExpireAnswer, LogFault, Name, NoMemory, Offer, Placed,
     Room, StoreFault, TableSummary, Then, ThenOutcome, Visit, VisitAnswer,
@@ -59,6 +59,13 @@ use share_model::{
 use std::alloc::Global;
 use std::collections::BTreeMap;
 use std::marker::Model;
+
+/// The count of faults of each disk of a partition: that of its log, and the two of its states.
+#[derive(Clone, Copy)]
+pub struct PartFaultCounts {
+    pub log: u64,
+    pub states: FaultCounts,
+}
 
 /// The shard of a hosted partition: its log, and the share groups that read it, each with its table and what it holds.
 ///
@@ -707,6 +714,18 @@ impl<D: Disk, W: Window> PartShard<D, W> {
             ⊎ ((D.seen self.now.states.journal.second.disk).starved ≡ true))) }
     {
         self.log.starved() || self.states.starved()
+    }
+
+    /// The count of faults of each of its disks.
+    pub fn faults(&self) -> PartFaultCounts
+        ensures log { result.log ≡ (D.seen self.now.log.journal.disk).faults }
+        ensures first { result.states.first ≡ (D.seen self.now.states.journal.first.disk).faults }
+        ensures second { result.states.second ≡ (D.seen self.now.states.journal.second.disk).faults }
+    {
+        PartFaultCounts {
+            log: self.log.faults(),
+            states: self.states.faults(),
+        }
     }
 
     /// Gives the disks back: that of the log, and the two of the states.
