@@ -30,12 +30,12 @@ use Rattle.edge_io.specs.Views.{DiskView}
 
 -- a partition that a device fault kept from being opened has a disk of these three that failed
 pub one_failed : {D : Type 0} (seen : D → DiskView) (conf : PartConfParts) (log a b log_now a_now b_now : D) (why : PartFault) (disk : DiskPlace)
-    → IsNotOpened seen conf log a b log_now a_now b_now why → why ≡ Device disk → disk ≢ LogB
+    → IsNotOpened seen conf log a b log_now a_now b_now why → why ≡ Device disk
     → HasFailed seen log log_now ⊎ (HasFailed seen a a_now ⊎ HasFailed seen b b_now)
-one_failed seen conf log a b log_now a_now b_now why LogDisk r is not = inl (r.log_device is)
-one_failed seen conf log a b log_now a_now b_now why LogB r is not = absurd (not refl)
-one_failed seen conf log a b log_now a_now b_now why StateA r is not = inr (inl (r.first_device is))
-one_failed seen conf log a b log_now a_now b_now why StateB r is not = inr (inr (r.second_device is))
+one_failed seen conf log a b log_now a_now b_now why LogDisk r is = inl (r.log_device is)
+one_failed seen conf log a b log_now a_now b_now why LogB r is = absurd (r.log_b_device is)
+one_failed seen conf log a b log_now a_now b_now why StateA r is = inr (inl (r.first_device is))
+one_failed seen conf log a b log_now a_now b_now why StateB r is = inr (inr (r.second_device is))
 
 -- they stand for the same log
 pub same_text : (c x : List ℕ) (b : Log) → AreAlike c x → IsLogText c b → IsLogText x b

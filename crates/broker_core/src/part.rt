@@ -25,7 +25,7 @@ ghost use Rattle.broker_core.specs.Restarts.{IsOpenedPart, IsDamagedPart, IsRest
 use crate::fault::{CoreOpen, lose};
 use crate::names::disk_name;
 use call_fold::{Looked, Produced};
-use edge_io::{Disk, DiskPlace};
+use edge_io::Disk;
 use flex_fields::Items;
 use share_model::{
     DeleteAnswer, ExpireAnswer, LogFault, Name, NoMemory, Placed, Visit, VisitAnswer,
@@ -167,25 +167,11 @@ pub fn look<D: Disk>(
 
 // ---- openings
 
-// What is told where this disk of a partition failed. It has no second disk of its log, so of that one nothing is.
-fn fault_of_device(disk: DiskPlace) -> CoreOpen
-    ensures device { result ≡ CoreOpen.Device → disk ≢ DiskPlace.LogB }
-    ensures no_bay { result ≢ CoreOpen.Bay }
-    ensures undamaged { (name : List ℕ) (place : ℕ) → result ≢ CoreOpen.Damaged name place }
-{
-    match disk {
-        DiskPlace::LogB => CoreOpen::NoMemory,
-        DiskPlace::Log => CoreOpen::Device,
-        DiskPlace::StateA => CoreOpen::Device,
-        DiskPlace::StateB => CoreOpen::Device,
-    }
-}
-
 // Why a partition was not opened, where none of its disks has found no memory.
 fn fault_of_open(topic: &Name, conf: &PartConf, fault: PartFault) -> CoreOpen
     requires { IsTopicName topic.now }
     ensures no_bay { result ≢ CoreOpen.Bay }
-    ensures device { result ≡ CoreOpen.Device → (disk : DiskPlace) × (fault ≡ PartFault.Device disk) × (disk ≢ DiskPlace.LogB) }
+    ensures device { result ≡ CoreOpen.Device → (disk : DiskPlace) × (fault ≡ PartFault.Device disk) }
     ensures damaged { (name : List ℕ) (place : ℕ) → result ≡ CoreOpen.Damaged name place →
         (disk : DiskPlace) × (fault ≡ PartFault.Damaged disk place) × (name ≡ hosted_name topic.now conf.now.part disk) }
 {
@@ -194,7 +180,7 @@ fn fault_of_open(topic: &Name, conf: &PartConf, fault: PartFault) -> CoreOpen
             disk: disk_name(topic, conf, disk),
             place,
         },
-        PartFault::Device { disk } => fault_of_device(disk),
+        PartFault::Device { .. } => CoreOpen::Device,
         PartFault::NoMemory => CoreOpen::NoMemory,
     }
 }

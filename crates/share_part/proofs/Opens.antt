@@ -1,7 +1,7 @@
 -- What is opened of three disks, and why nothing is.
 use Rattle.std.proofs.Common.{◌≡◌, ◌≢◌, ◌∙◌, arith, inl, inr, refl, sym, ap, subst, ℕ, pos, List, [], Some, None, Bool, true, false}
 use Rattle.edge_io.specs.declared.name.DiskPlace.{DiskPlace}
-use Rattle.edge_io.specs.declared.name.DiskPlace.TheVariants.{Log, StateA, StateB}
+use Rattle.edge_io.specs.declared.name.DiskPlace.TheVariants.{Log, LogB, StateA, StateB}
 use Rattle.coord_checkpoint.specs.Disks.{HasFailed}
 use Rattle.coord_checkpoint.specs.declared.fault.CoordOpen.{CoordOpen}
 use Rattle.coord_checkpoint.specs.declared.fault.CoordOpen.TheVariants.{Damaged as states_damaged, Device as states_device, NoMemory as states_memory}
@@ -68,6 +68,7 @@ module _ {D W : Type 0} (seen : D → DiskView) (holding : W → Held)
     damaged = λ place at e. absurd (let clash : ⊥ = cc in clash);
     sound = λ l x y batches states is_log is_a is_b text place at e. let clash : ⊥ = cc in clash;
     log_device = λ e. absurd (let clash : ⊥ = cc in clash);
+    log_b_device = λ is. let clash : ⊥ = cc in clash;
     first_device = λ e. absurd (let clash : ⊥ = cc in clash);
     second_device = λ e. absurd (let clash : ⊥ = cc in clash);
   }
@@ -150,6 +151,7 @@ module _ {D W : Type 0} (seen : D → DiskView) (holding : W → Held)
         subst (λ (k : DiskPlace). AreDamagedAt conf l x y k place) d (subst (IsNoLogText l) p (damaged at refl l at_l));
     sound = λ l x y batches states at_l at_x at_y text place_disk place is. sound l batches at_l text.log_is at refl;
     log_device = λ is. absurd (let clash : ⊥ = cc in clash);
+    log_b_device = λ is. let clash : ⊥ = cc in clash;
     first_device = λ is. absurd (let clash : ⊥ = cc in clash);
     second_device = λ is. absurd (let clash : ⊥ = cc in clash);
   }
@@ -157,6 +159,7 @@ module _ {D W : Type 0} (seen : D → DiskView) (holding : W → Held)
     damaged = λ place_disk place is. absurd (let clash : ⊥ = cc in clash);
     sound = λ l x y batches states at_l at_x at_y text place_disk place is. let clash : ⊥ = cc in clash;
     log_device = λ is. device refl;
+    log_b_device = λ is. let clash : ⊥ = cc in clash;
     first_device = λ is. absurd (let clash : ⊥ = cc in clash);
     second_device = λ is. absurd (let clash : ⊥ = cc in clash);
   }
@@ -164,6 +167,7 @@ module _ {D W : Type 0} (seen : D → DiskView) (holding : W → Held)
     damaged = λ place_disk place is. absurd (let clash : ⊥ = cc in clash);
     sound = λ l x y batches states at_l at_x at_y text place_disk place is. let clash : ⊥ = cc in clash;
     log_device = λ is. absurd (let clash : ⊥ = cc in clash);
+    log_b_device = λ is. let clash : ⊥ = cc in clash;
     first_device = λ is. absurd (let clash : ⊥ = cc in clash);
     second_device = λ is. absurd (let clash : ⊥ = cc in clash);
   }
@@ -176,8 +180,11 @@ module _ {D W : Type 0} (seen : D → DiskView) (holding : W → Held)
       → (Device (state_disk second) ≡ Device StateA → HasFailed seen a a_now)
       × (Device (state_disk second) ≡ Device StateB → HasFailed seen b b_now)
       × (Device (state_disk second) ≡ Device Log → ⊥)
-  device_by false a_now b_now n = (λ is. n.device refl, λ is. absurd (let clash : ⊥ = cc in clash), λ is. let clash : ⊥ = cc in clash)
-  device_by true a_now b_now n = (λ is. absurd (let clash : ⊥ = cc in clash), λ is. n.second_device refl, λ is. let clash : ⊥ = cc in clash)
+      × (Device (state_disk second) ≢ Device LogB)
+  device_by false a_now b_now n =
+      (λ is. n.device refl, λ is. absurd (let clash : ⊥ = cc in clash), λ is. let clash : ⊥ = cc in clash, λ is. let clash : ⊥ = cc in clash)
+  device_by true a_now b_now n =
+      (λ is. absurd (let clash : ⊥ = cc in clash), λ is. n.second_device refl, λ is. let clash : ⊥ = cc in clash, λ is. let clash : ⊥ = cc in clash)
 
   pub by_states : (disk_now a_now b_now : D) (fault : CoordOpen) (its : PartitionLog) → ((c : List ℕ) → (seen disk).content ≡ Some c → IsLogText c its)
       → states_not_opened seen a b (a_now, b_now, fault)
@@ -188,6 +195,7 @@ module _ {D W : Type 0} (seen : D → DiskView) (holding : W → Held)
         subst (λ (k : DiskPlace). AreDamagedAt conf l x y k place) d (damaged_by second l x y place (its_log, opens l at_l) (subst (AreDamaged x y second) p (n.damaged second at refl x y at_x at_y)));
     sound = λ l x y batches states at_l at_x at_y text place_disk place is. n.sound x y text.states_are.entries at_x at_y text.states_are.stored second at refl;
     log_device = λ is. absurd (let clash : ⊥ = cc in clash);
+    log_b_device = λ is. let clash : ⊥ = cc in clash;
     first_device = λ is. absurd (let clash : ⊥ = cc in clash);
     second_device = λ is. absurd (let clash : ⊥ = cc in clash);
   }
@@ -197,6 +205,7 @@ module _ {D W : Type 0} (seen : D → DiskView) (holding : W → Held)
         damaged = λ place_disk place is. absurd (let clash : ⊥ = cc in clash);
         sound = λ l x y batches states at_l at_x at_y text place_disk place is. let clash : ⊥ = cc in clash;
         log_device = λ is. absurd (d.2 is);
+        log_b_device = d.3;
         first_device = d.0;
         second_device = d.1;
       }
@@ -204,6 +213,7 @@ module _ {D W : Type 0} (seen : D → DiskView) (holding : W → Held)
     damaged = λ place_disk place is. absurd (let clash : ⊥ = cc in clash);
     sound = λ l x y batches states at_l at_x at_y text place_disk place is. let clash : ⊥ = cc in clash;
     log_device = λ is. absurd (let clash : ⊥ = cc in clash);
+    log_b_device = λ is. let clash : ⊥ = cc in clash;
     first_device = λ is. absurd (let clash : ⊥ = cc in clash);
     second_device = λ is. absurd (let clash : ⊥ = cc in clash);
   }
@@ -234,6 +244,7 @@ module _ {D W : Type 0} (seen : D → DiskView) (holding : W → Held)
         broken (subst (AreHosted conf (log_in log)) (raised_found log.start before after states (log_in log) its l x y found same refl at_x at_y text)
         (subst (λ (k : PartitionLog). AreHosted conf k found) same text.hosted));
     log_device = λ is. absurd (let clash : ⊥ = cc in clash);
+    log_b_device = λ is. let clash : ⊥ = cc in clash;
     first_device = λ is. absurd (let clash : ⊥ = cc in clash);
     second_device = λ is. absurd (let clash : ⊥ = cc in clash);
   }

@@ -59,7 +59,8 @@ pub record IsNotOpened {D : Type 0} (seen : D → DiskView)
   pub sound : (l x y : List ℕ) (is : PartitionLog) (states : ShareStates) →
       (seen log).content ≡ Some l → (seen a).content ≡ Some x → (seen b).content ≡ Some y →
       ArePartText conf l x y is states → (disk : DiskPlace) (place : ℕ) → fault ≢ Damaged disk place
-  -- a disk failed
+  -- a disk failed, of those that a partition has: it has no second disk of its log
   pub log_device : fault ≡ Device Log → HasFailed seen log log_now
+  pub log_b_device : fault ≢ Device LogB
   pub first_device : fault ≡ Device StateA → HasFailed seen a a_now
   pub second_device : fault ≡ Device StateB → HasFailed seen b b_now

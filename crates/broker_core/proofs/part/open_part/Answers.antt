@@ -52,7 +52,7 @@ pub returns-else-one_starved-clause-sound : goal.returns-else-one_starved-clause
 returns-else-one_starved-clause-sound g c = λ told first_told second_told none first_none second_none e.
     let why = c.fault_of_open-fault.ensures.device e in
     let fed = c.one_starved.ensures c.if-one_starved.false in
-    elim (one_failed g.D.Disk.seen c.args.conf _ _ _ _ _ _ _ why.0 c.in-Err.ensures.refused why.1 why.2) [
+    elim (one_failed g.D.Disk.seen c.args.conf _ _ _ _ _ _ _ why.0 c.in-Err.ensures.refused why.1) [
       | inl h ↦ false≢true (sym fed.0 ∙ h.1 told none)
       | inr more ↦ elim more [
         | inl h ↦ false≢true (sym fed.1 ∙ h.1 first_told first_none)
@@ -63,7 +63,7 @@ returns-else-one_starved-clause-sound g c = λ told first_told second_told none 
 pub returns-else-one_starved-clause-device : goal.returns-else-one_starved-clause-device
 returns-else-one_starved-clause-device g c = λ e.
     let why = c.fault_of_open-fault.ensures.device e in
-    elim (one_failed g.D.Disk.seen c.args.conf _ _ _ _ _ _ _ why.0 c.in-Err.ensures.refused why.1 why.2) [
+    elim (one_failed g.D.Disk.seen c.args.conf _ _ _ _ _ _ _ why.0 c.in-Err.ensures.refused why.1) [
       | inl h ↦ inl h.0
       | inr more ↦ elim more [
         | inl h ↦ inr (inl h.0)
