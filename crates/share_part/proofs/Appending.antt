@@ -1,5 +1,5 @@
 -- The bytes of batches, one after another.
-use Rattle.std.proofs.Common.{◌≡◌, ◌∙◌, refl, sym, ap, subst, arith, ℕ, zero, suc, ◌+◌, ◌<◌, ◌≤◌, List, [], ◌∷◌, ◌++◌, length, drop, get_or, append_assoc, length-append, drop-cons, add-one}
+use Rattle.std.proofs.Common.{◌≡◌, ◌≢◌, ◌∙◌, refl, sym, ap, subst, arith, ℕ, zero, suc, ◌+◌, ◌<◌, ◌≤◌, List, [], ◌∷◌, ◌++◌, length, drop, get_or, append_assoc, length-append, drop-cons, add-one}
 use Rattle.std.specs.List.{AllByRecursion}
 use Rattle.share_model.specs.Logs.{Batch, IsAt}
 use Rattle.log_index.specs.Indexes.{FillsWithin}
@@ -38,6 +38,12 @@ all_within log [] [] h = tt
 all_within log [] (b ∷ batches) h = absurd h
 all_within log (n ∷ numbers) [] h = absurd h
 all_within log (n ∷ numbers) (b ∷ batches) h = ((at_is log n b h.0).1, all_within log numbers batches h.1)
+
+-- where there are numbers, there are batches
+pub some_at : (log : List Batch) (numbers : List ℕ) (batches : List Batch) → AreAt log numbers batches → numbers ≢ [] → batches ≢ []
+some_at log [] batches h some = absurd (some refl)
+some_at log (n ∷ numbers) [] h some = absurd h
+some_at log (n ∷ numbers) (b ∷ batches) h some = λ is. let clash : ⊥ = cc in clash
 
 -- So many are appended. Where they aren't told, nothing is known of them but how many bytes there are at most.
 pub record HasAppended (told : Type 0) (log : List Batch) (numbers : List ℕ) (i : ℕ) (was out : Filled) : Type 0 where

@@ -1,5 +1,5 @@
 -- A fetch of which a batch couldn't be read, as a step of the shard.
-use Rattle.std.proofs.Common.{◌≡◌, ◌∙◌, refl, sym, ap, subst, ℕ, pos, max, List}
+use Rattle.std.proofs.Common.{◌≡◌, ◌≢◌, ◌∙◌, refl, sym, ap, subst, ℕ, pos, max, List, []}
 use Rattle.std.specs.Prelude.{Option, Some, None, Result, Ok, Err, IsSome, true}
 use Rattle.std.specs.BTreeMap.{insert_entry}
 use Rattle.std.specs.Option.{option_map}
@@ -32,10 +32,12 @@ use Rattle.share_part.specs.declared.limits.Limits.{Limits}
 use Rattle.share_part.specs.Failures.{AreQuiet, FailuresRose}
 use Rattle.share_part.specs.Hosting.{PartConfParts, AreHosted, key_of}
 use Rattle.share_coord.specs.States.{states_of}
-use Rattle.share_part.specs.Making.{MakesTableOnce, Tells}
+use Rattle.share_part.specs.Making.{MakesTableOnce, Tells, state_for}
 use Rattle.share_part.specs.Once.{FollowsOnce, ReadsBatches, reading_of}
-use Rattle.share_part.specs.Following.{HasItsTable, HasNothingToWrite, IsFetch, IsEmptyAnswer, IsUnread, StepsThen}
+use Rattle.share_part.specs.Following.{HasItsTable, HasNothingToWrite, IsFetch, IsEmptyAnswer, IsUnread, StepsThen, TakesBatch}
 use Rattle.share_part.specs.Shards.{PartShardState, PartParts, Carries, held_in, new_state, first_start}
+use Rattle.share_part.specs.Tables.{table_of}
+use Rattle.share_part.specs.Walks.{acquired}
 use Rattle.share_part.specs.Writes.{WritesThen}
 use Rattle.share_part.proofs.Failing.{quiet_same}
 use Rattle.share_part.proofs.Seeing.{state_seen, view_of, hosted_more, new_hosted, made_is, write_level}
@@ -47,7 +49,9 @@ module _ {D W : Type 0} (seen : D → DiskView) (holding : W → Held) (now : �
     (limits : Limits) (is_fetch : visit.then ≡ Fetch limits.records limits.bytes limits.first)
     (answer : VisitAnswer) (ack : answer.ack ≡ acknowledged) (empty : IsEmptyAnswer (store_outcome Device) answer)
     (held : (group : List ℕ) → held_in holding new.windows group ≡ held_in holding old.windows group)
-    (clock : new.clock ≡ max old.clock now) where
+    (clock : new.clock ≡ max old.clock now)
+    (some : (acquired old.log.batches (table_of (state_for old.conf (log_in old.log) old.states.entries visit.group)
+    (held_in holding old.windows visit.group)) limits).batches ≢ []) where
   abbrev its_key : KeyParts
   its_key = key_of old.conf visit.group
 
@@ -71,10 +75,10 @@ module _ {D W : Type 0} (seen : D → DiskView) (holding : W → Held) (now : �
     clock = new.clock;
   }
 
-  is_unread : (s t : PartShardState) (o : Option ShareState) → share_state_at s.states its_key ≡ o → HasItsTable old.conf s visit t o
-      → t.held ≡ s.held → IsUnread old.conf (reading_of seen old.log new.log true).rose s visit answer t
-  is_unread s t o is table same = record {
-    asked = subst IsFetch (sym is_fetch) tt;
+  is_unread : (s t : PartShardState) (o : Option ShareState) → TakesBatch old.conf s visit (Fetch limits.records limits.bytes limits.first)
+      → share_state_at s.states its_key ≡ o → HasItsTable old.conf s visit t o → t.held ≡ s.held → IsUnread old.conf (reading_of seen old.log new.log true).rose s visit answer t
+  is_unread s t o takes is table same = record {
+    asked = subst (TakesBatch old.conf s visit) (sym is_fetch) takes;
     risen = log.calls.rose refl;
     empty = empty;
     table = subst (HasItsTable old.conf s visit t) (sym is) table;
@@ -94,7 +98,7 @@ module _ {D W : Type 0} (seen : D → DiskView) (holding : W → Held) (now : �
       log = refl;
       ack = ack;
       does = is_unread (shard_of seen holding old batch pending) (shard_left batch (states_of old.states.entries) (option_map states_of pending))
-          (Some kept.view) (state_seen old.states.entries its_key ∙ ap (option_map view_of) is) (refl, refl) refl;
+          (Some kept.view) some (state_seen old.states.entries its_key ∙ ap (option_map view_of) is) (refl, refl) refl;
     },
   ))
 
@@ -133,7 +137,7 @@ module _ {D W : Type 0} (seen : D → DiskView) (holding : W → Held) (now : �
           clock = clock;
           log = refl;
           ack = ack;
-          does = is_unread (shard_of seen holding old batch pending) (shard_left batch (states_of new.states.entries) None) None (unseen none)
+          does = is_unread (shard_of seen holding old batch pending) (shard_left batch (states_of new.states.entries) None) None some (unseen none)
               (states, refl) refl;
         },
       ))

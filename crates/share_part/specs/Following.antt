@@ -4,13 +4,14 @@
 -- anything is acquired. A lock ends at the shard's clock plus the lock duration. A release is stored by one write, and
 -- there is none where the member holds nothing.
 -- The batches of a fetch are read from the log's disk, once the group has its table. Where one can't be read, nothing
--- is acquired, and a table that was made stands.
+-- is acquired, and a table that was made stands. A fetch that takes nothing has no batch to read.
 -- Worked example: a log has one batch of three records from 0 to 2, `g` has no table, a new group begins at the log's start, 0, locks last 30000. A fetch
 -- of 2 records by `a` at 5000 stores a table with start 0 and no rows, and acquires 0 and 1 with count 1 until 35000. A fetch by `b` at
 -- 1000 acquires 2, until 35000 as well. Each is answered with the whole batch. A release of `a` then stores 0 and 1 as available with
 -- count 1, and `b` still holds 2. Had the log's disk failed in the fetch of `b`, that would be answered with a device
--- fault and no batch, and 2 would still be available; in that of `a`, the table would be stored all the same.
-use Rattle.std.specs.Prelude.{◌≡◌, ◌≤◌, ◌+◌, max, ℕ, List, [], length, Option, Some, None, IsSome, Bool, true, false}
+-- fault and no batch, and 2 would still be available; in that of `a`, the table would be stored all the same. A fetch of
+-- `c`, while all three are held, acquires nothing and is done, however that disk does.
+use Rattle.std.specs.Prelude.{◌≡◌, ◌≢◌, ◌≤◌, ◌+◌, max, ℕ, List, [], length, Option, Some, None, IsSome, Bool, true, false, unwrap_or}
 use Rattle.share_model.specs.ForeignRules.{ShareStates, share_state_at}
 use Rattle.share_model.specs.Held.{Held}
 use Rattle.part_log.specs.Shards.{log_at}
@@ -28,7 +29,7 @@ use Rattle.share_part.specs.Acknowledging.{HasNoRoom, IsNotStored, NameNone, Nam
 use Rattle.share_part.specs.Hosting.{PartConfParts, key_of}
 use Rattle.share_part.specs.Settling.{Acts, is_chosen, releasing}
 use Rattle.share_part.specs.Shards.{PartShardState, IsStill, new_state, with_held, with_new}
-use Rattle.share_part.specs.Tables.{table_of, with_holds}
+use Rattle.share_part.specs.Tables.{Table, table_of, with_holds}
 use Rattle.share_part.specs.Walks.{acquired, AreRunsOf, bytes_in}
 use Rattle.share_part.specs.declared.limits.Limits.{Limits}
 use Rattle.share_part.specs.declared.settle.Whose.TheVariants.{Member}
@@ -124,10 +125,22 @@ abbrev pub HasItsTable : PartConfParts → (old : PartShardState) → Visit → 
 HasItsTable conf old visit new (Some state) = (new.states ≡ old.states) × (new.pending ≡ old.pending)
 HasItsTable conf old visit new None = IsMade conf old visit new.states × (new.pending ≡ None)
 
+-- the table that a fetch of a group walks: its own, or a new one
+abbrev pub walked_table : PartConfParts → PartShardState → (group : List ℕ) → Table
+walked_table conf shard group =
+    table_of (unwrap_or (share_state_at shard.states (key_of conf group)) (new_state conf (log_at shard.log))) (shard.held group)
+
+-- a fetch, whose walk takes a batch
+abbrev pub TakesBatch : PartConfParts → PartShardState → Visit → Then → Type 0
+TakesBatch conf old visit Nothing = ⊥
+TakesBatch conf old visit Release = ⊥
+TakesBatch conf old visit (Fetch records bytes first) =
+    (acquired old.log.batches (walked_table conf old visit.group) (record { records = records; bytes = bytes; first = first })).batches ≢ []
+
 -- a fetch of which a batch couldn't be read: nothing is acquired
 pub record IsUnread (conf : PartConfParts) (rose : Type 0) (old : PartShardState) (visit : Visit) (answer : VisitAnswer)
     (new : PartShardState) : Type 0 where
-  pub asked : IsFetch visit.then
+  pub asked : TakesBatch conf old visit visit.then
   pub risen : rose
   pub empty : IsEmptyAnswer (Store Device) answer
   pub table : HasItsTable conf old visit new (share_state_at old.states (key_of conf visit.group))

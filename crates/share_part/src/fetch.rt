@@ -1,5 +1,5 @@
 // The pieces of a fetch.
-ghost use Rattle.std.specs.Prelude.{◌≡◌, ◌≤◌, ◌<◌, ◌+◌, ◌^◌, ◌++◌, pos, ◌≤ℤ◌, List, None, Ok, true, false, IsErr, IsSome, IfOk, OnOk, length, vec_len};
+ghost use Rattle.std.specs.Prelude.{◌≡◌, ◌≢◌, ◌≤◌, ◌<◌, ◌+◌, ◌^◌, ◌++◌, pos, ◌≤ℤ◌, List, [], None, Ok, true, false, IsErr, IsSome, IfOk, OnOk, length, vec_len};
 ghost use Rattle.std.specs.BTreeMap.{is_at};
 ghost use Rattle.std.specs.Cmp.Lexicographic.{slice_cmp};
 ghost use Rattle.std.specs.List.{AllByRecursion};
@@ -216,6 +216,7 @@ pub fn append_batches<D: Disk>(
     ensures size { OnOk result (length out.new.bytes ≤
         length out.old.bytes + length (numbered_bytes log.old.batches numbers.now)) }
     ensures log { ReadsBatches D.seen (IsErr result) log.old log.new }
+    ensures some { IsErr result → numbers.now ≢ [] }
 {
     for number in numbers {
         if let Err(fault) = log.batch_bytes(*number, out) {

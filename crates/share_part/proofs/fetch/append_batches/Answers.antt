@@ -32,6 +32,11 @@ returns-in-Err-clause-log g c =
     (device_only c.in-Err.fault (λ e. c.batch_bytes.ensures.spared t.0 at (omega (arith, ap length t.2, fits)) (c.in-Err.is ∙ ap (λ (f : BatchRead). Err f) e)))
     c.loop-number.invariant.0 c.batch_bytes.ensures.log c.batch_bytes.ensures.disk
 
+pub returns-in-Err-clause-some : goal.returns-in-Err-clause-some
+returns-in-Err-clause-some g c =
+    let lt : c.loop-number.number-index < length c.args.numbers.now = omega (arith, c.loop-number-test.true) in
+    λ failed none. omega (arith, lt, ap length none)
+
 pub loop-number-preserved : goal.loop-number-preserved
 loop-number-preserved g c =
     let log = c.args.log.now.batches in

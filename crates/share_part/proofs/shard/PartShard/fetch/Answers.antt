@@ -11,7 +11,7 @@ use Rattle.share_part.specs.Hosting.{AreHosted}
 use Rattle.share_part.specs.Making.{numbered_bytes, state_for}
 use Rattle.share_part.specs.Shards.{held_in}
 use Rattle.share_part.proofs.Failing.{run_none}
-use Rattle.share_part.proofs.Appending.{all_within, numbered_is}
+use Rattle.share_part.proofs.Appending.{all_within, numbered_is, some_at}
 use Rattle.share_part.proofs.Holding.{AreKept, same_kept}
 use Rattle.share_part.proofs.Looked.{nothing_read, read_all, read_not}
 use Rattle.share_part.proofs.Unreads.{unread_so}
@@ -108,6 +108,8 @@ pub returns-in-Err-clause-once : goal.returns-in-Err-clause-once
 returns-in-Err-clause-once g c = rw (← c.self.view_is) (unread_so g.D.Disk.seen g.W.Window.held c.args.now c.args.visit.now _ _ refl
     (read_not g.D.Disk.seen c.self.inside.log c.append_batches.new.log c.append_batches.result (err_is c.append_batches.result _ c.in-Err.is) c.append_batches.ensures.log)
     c.args.limits c.requires.fetch c.unread.result c.unread.ensures.ack c.unread.ensures.answer c.in_ok-plan.ensures.held c.max-self-inside.ensures
+    (some_at c.self.inside.log.batches c.in_ok-plan.plan.numbers.items _ c.in_ok-plan.ensures.prepared.is.batches
+    (λ none. c.append_batches.ensures.some (err_is c.append_batches.result _ c.in-Err.is) (c.deref.ensures.value ∙ none)))
     c.make_table.result (c.in_ok-outcome.was ∙ ap (λ (o : ThenOutcome). Ok o) c.in-Done.is) c.make_table.ensures.made)
 
 pub invariant_of-self-2 : goal.invariant_of-self-2

@@ -18,7 +18,7 @@ use Rattle.share_part.specs.Once.{VisitsOnce}
 use Rattle.share_part.specs.Shards.{PartParts, held_in}
 use Rattle.share_part.proofs.Acked.{acked_from, stands, visited}
 use Rattle.share_part.proofs.Ahead.{goes_by, made_there, none_ready}
-use Rattle.share_part.proofs.Appending.{all_within, numbered_is}
+use Rattle.share_part.proofs.Appending.{all_within, numbered_is, some_at}
 use Rattle.share_part.proofs.Failing.{run_none}
 use Rattle.share_part.proofs.Holding.{AreKept, same_kept}
 use Rattle.share_part.proofs.Looked.{nothing_read, read_all, read_not}
@@ -127,6 +127,8 @@ returns-in-Err-clause-once g c =
     c.unread.result (Ok c.unread.result) refl
     (unread_so g.D.Disk.seen g.W.Window.held c.args.now c.args.visit.now (record { conf = c.self.inside.conf; log = c.self.inside.log; states = c.settle_acks-ack.new.states; windows = c.settle_acks-ack.new.windows.entries; clock = c.self.inside.clock }) (record { conf = c.self.inside.conf; log = c.append_batches.new.log; states = c.settle_acks-ack.new.states; windows = c.settle_acks-ack.new.windows.entries; clock = c.max-self-inside.result }) refl (read_not g.D.Disk.seen c.self.inside.log c.append_batches.new.log c.append_batches.result (err_is c.append_batches.result _ c.in-Err.is) c.append_batches.ensures.log)
     c.args.limits c.requires.fetch c.unread.result c.unread.ensures.ack c.unread.ensures.answer (λ group. refl) c.max-self-inside.ensures
+    (some_at c.self.inside.log.batches c.chosen-plan.result.0.numbers.items _ goes.planned.batches
+    (λ none. c.append_batches.ensures.some (err_is c.append_batches.result _ c.in-Err.is) (c.deref.ensures.value ∙ none)))
     (Ok _) refl (made_there g.D.Disk.seen c.self.inside.conf c.args.visit.now.group (log_in c.self.inside.log) c.settle_acks-ack.new.states goes.its goes.there))))
 
 pub hand_out-answer-requires-clause-plan : goal.hand_out-answer-requires-clause-plan
