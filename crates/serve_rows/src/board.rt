@@ -14,6 +14,9 @@ pub const BEGUN: usize = 1;
 /// What is held goes on.
 pub const RELEASED: usize = 2;
 
+/// How many replies were written, where their links' numbers are heard.
+pub const HEARD: usize = 3;
+
 /// How often a signal is looked at.
 pub const LOOKS: u32 = 20_000;
 

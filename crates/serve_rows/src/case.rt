@@ -1,7 +1,7 @@
 // The cases of a file.
 use crate::board::Board;
 use crate::peer::{Peer, parted};
-use crate::serving::{gated, links_status};
+use crate::serving::{gated, links_status, numbered};
 use crate::socket::socket_status;
 use crate::turns::turns;
 use row_text::{compared, expanded};
@@ -114,6 +114,7 @@ fn outcome<
     let told = match kind {
         "status" => links_status(handle, rt, case)?,
         "gated" => gated(handle, rt, case)?,
+        "numbered" => numbered(handle, rt, case)?,
         "expiries" => turns(handle, rt, case)?,
         "socket" => socket_status(handle, rt, case)?,
         _ => return Ok(None),

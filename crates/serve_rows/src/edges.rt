@@ -1,8 +1,9 @@
-// What a server meets: clocks that go on by steps, jobs of which one is refused, and a gate that holds a link.
+// What a server meets: clocks that go on by steps, jobs of which one is refused, a gate that holds a link, and one that
+// hears the numbers of links.
 ghost use Rattle.std.specs.Prelude.{◌≤◌, ◌^◌, None};
 ghost use Rattle.edge_io.specs.Causes.{Rose};
 
-use crate::board::{Board, RELEASED};
+use crate::board::{Board, HEARD, RELEASED};
 use edge_io::{Clock, Gate, GatePlace, Spawner};
 use std::alloc::Global;
 use std::sync::Arc;
@@ -97,6 +98,38 @@ impl Gate for HeldLink {
             }
             GatePlace::Replied { link: 1 } => self.board.put(RELEASED, 1),
             _ => {}
+        }
+    }
+}
+
+/// Hears the number of each link: they go up from 0. Each link asks for one part, and has its reply before the next one
+/// asks.
+#[derive(Drop)]
+pub struct LinkNumbers {
+    pub board: Arc<Board, Global>,
+}
+
+impl LinkNumbers {
+    /// How many replies there were before this place, which is one of that link.
+    fn hear(&self, link: u32) -> u64 {
+        let replied = self.board.told(HEARD);
+        if u64::from(link) != replied {
+            self.board.fail("a link has another number");
+        }
+        replied
+    }
+}
+
+impl Gate for LinkNumbers {
+    fn at(&self, place: GatePlace) {
+        match place {
+            GatePlace::Part { link } => {
+                self.hear(link);
+            }
+            GatePlace::Replied { link } => {
+                let replied = self.hear(link);
+                self.board.put(HEARD, replied.saturating_add(1));
+            }
         }
     }
 }

@@ -20,6 +20,7 @@
 //! | `listener-fails N` | the call for a link that is numbered N, from 0, fails |
 //! | `status N` | the links are served, and the server ends with the status N |
 //! | `gated served` | the links are served to their end by a server in which each part of link 0 waits until link 1 has a reply |
+//! | `numbered served N` | the same, where a gate hears the numbers of links that have one reply each: they go up from 0 to below N |
 //! | `expiries N ..` | no threads: each link is served to its end, and behind each is a turn of expiries with so many faults |
 //! | `socket N` | the peer of the one link is a client of a TCP socket, which sends and gets; the server ends with the status N |
 //!

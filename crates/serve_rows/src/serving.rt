@@ -1,10 +1,11 @@
 // Servers over links in memory.
+use crate::board::HEARD;
 use crate::case::Case;
 use crate::disks::{MemFolders, bay_of};
-use crate::edges::{HeldLink, Jobs, StepClock};
+use crate::edges::{HeldLink, Jobs, LinkNumbers, StepClock};
 use crate::peer::Peer;
 use broker_run::{LinksEnd, Served};
-use edge_io::Listener;
+use edge_io::{Gate, Listener};
 use edge_mem::{MemListener, MemSink, MemSource};
 use edge_real::{NoNotices, TcpLink};
 use share_top::{run, serve_words};
@@ -93,17 +94,13 @@ fn word_of(served: &Served) -> &'static str {
     }
 }
 
-/// Serves the case's links with a gate that holds link 0.
-pub fn gated<H: Threads + Wait + Clone + Copy + Drop + Send + Sync + 'static>(
-    handle: &H,
-    rt: HostRuntime,
-    case: &mut Case,
-) -> io::Result<String> {
+/// Serves the case's links with a gate, and tells what became of the server.
+fn past<
+    H: Threads + Wait + Clone + Copy + Drop + Send + Sync + 'static,
+    G: Gate + Drop + Send + Sync + 'static,
+>(handle: &H, rt: HostRuntime, case: &mut Case, gate: G) -> io::Result<String> {
     let alloc = rt.alloc();
     let (folders, folder) = folders_of(case)?;
-    let gate = HeldLink {
-        board: Arc::try_clone(&case.board)?,
-    };
     let mut listener = listener_of(alloc, case)?;
     let Ok(Some((_, words))) = serve_words(alloc, &case.words) else {
         return Ok(String::from_str(alloc, "no words of a server")?);
@@ -124,4 +121,25 @@ pub fn gated<H: Threads + Wait + Clone + Copy + Drop + Send + Sync + 'static>(
         gate,
     );
     Ok(String::from_str(alloc, word_of(&served))?)
+}
+
+/// Serves the case's links with a gate that holds link 0.
+pub fn gated<H: Threads + Wait + Clone + Copy + Drop + Send + Sync + 'static>(
+    handle: &H,
+    rt: HostRuntime,
+    case: &mut Case,
+) -> io::Result<String> {
+    let board = Arc::try_clone(&case.board)?;
+    past(handle, rt, case, HeldLink { board })
+}
+
+/// Serves the case's links with a gate that hears their numbers, and tells how many replies there were.
+pub fn numbered<H: Threads + Wait + Clone + Copy + Drop + Send + Sync + 'static>(
+    handle: &H,
+    rt: HostRuntime,
+    case: &mut Case,
+) -> io::Result<String> {
+    let board = Arc::try_clone(&case.board)?;
+    let became = past(handle, rt, case, LinkNumbers { board })?;
+    Ok(format!(in rt.alloc(); "{became} {}", case.board.told(HEARD))?)
 }
