@@ -8,6 +8,7 @@ use Rattle.std.specs.Prelude.{ℕ, zero, suc, ◌+◌, ◌-◌, ◌*◌, ◌%◌
 use Rattle.session_script.specs.declared.event.Event.{Event}
 use Rattle.session_script.specs.declared.event.Event.TheVariants.{Open, Bytes, Step, Expire, Power}
 use Rattle.msgs_base.specs.ProduceRequest.{produce_request}
+use Rattle.msgs_base.specs.Versions.{produce_version}
 use Rattle.msgs_share.specs.ShareFetchRequest.{share_fetch_request}
 use Rattle.msgs_share.specs.ShareAckRequest.{share_ack_request}
 use Rattle.share_model.specs.declared.ack.AckKind.{AckKind}
@@ -115,7 +116,7 @@ sent conn round frame = Bytes conn frame ∷ Step conn (moment_of round) ∷ []
 -- the events of an act behind those that these counts tell of; frames are numbered from 1 on
 abbrev pub events_of : Counts → Act → List Event
 events_of counts (produces round) =
-    sent 1 round (frame_of (head_of 0 9 (counts.frames + 1)) (produce_request.bytes (produce_message round)))
+    sent 1 round (frame_of (head_of 0 9 (counts.frames + 1)) ((produce_request (produce_version 9)).format.bytes (produce_message round)))
 events_of counts (fetches round) = sent (conn_of (member_of round)) round (frame_of (head_of 78 1 (counts.frames + 1))
     (share_fetch_request.bytes (fetch_message (member_of round) (asked_by (member_of round) counts))))
 events_of counts (settles round kind) = sent (conn_of (member_of round)) round

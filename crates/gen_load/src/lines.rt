@@ -70,28 +70,28 @@ fn put_bytes(text: &mut Pieces, conn: u32, size: u32, content: &[u8]) -> Result<
     text.put("\n")
 }
 
-fn content_of<M: Wire>(alloc: Global, head: &RequestHead, message: &M) -> Result<Bytes, NoMemory>
-    ensures { IfOk result (λ bytes. bytes ≡ request_head.bytes head.now ++ M.format.bytes message.now) }
+fn content_of(alloc: Global, head: &RequestHead, body: &[u8]) -> Result<Bytes, NoMemory>
+    ensures { IfOk result (λ bytes. bytes ≡ request_head.bytes head.now ++ body.now) }
 {
     let mut out = Out::new(alloc);
     head.put(&mut out)?;
-    message.put(&mut out)?;
+    out.put_slice(body)?;
     Ok(out.into_bytes())
 }
 
 /// The lines of a request and of the step that takes it. A frame of 2^32 bytes and more is answered as want of memory.
-pub(crate) fn put_sent<M: Wire>(
+pub(crate) fn put_sent(
     alloc: Global,
     text: &mut Pieces,
     conn: u32,
     round: u32,
     head: &RequestHead,
-    message: &M,
+    body: &[u8],
 ) -> Result<(), NoMemory>
     ensures { OnOk result (text.new ≡ text.old
-        ++ flat_map line_of (sent conn round (frame_of head.now (M.format.bytes message.now)))) }
+        ++ flat_map line_of (sent conn round (frame_of head.now body.now))) }
 {
-    let content = content_of(alloc, head, message)?;
+    let content = content_of(alloc, head, body)?;
     let content = content.as_slice();
     let Ok(size) = u32::try_from(content.len()) else {
         return Err(NoMemory);

@@ -11,6 +11,8 @@ use crate::lines::{put_expiry, put_restart, put_sent};
 use crate::messages::{ack_message, fetch_message, produce_message};
 use crate::records::batch_size;
 use flex_fields::NoMemory;
+use msgs_base::{produce_version, write_produce_request};
+use msgs_share::{write_share_ack_request, write_share_fetch_request};
 use req_head::RequestHead;
 use share_model::AckKind;
 use std::alloc::Global;
@@ -51,8 +53,9 @@ impl Script {
         ensures { OnOk result (Adds self.old self.new (produces round ∷ [])) }
     {
         let message = produce_message(alloc, round)?;
+        let body = write_produce_request(alloc, produce_version(9), &message)?;
         let head = head_of(0, 9, self.counts.frames);
-        put_sent(alloc, &mut self.text, 1, round, &head, &message)?;
+        put_sent(alloc, &mut self.text, 1, round, &head, body.as_slice())?;
         self.counts = Counts {
             frames: self.counts.frames + 1,
             first: self.counts.end,
@@ -68,8 +71,16 @@ impl Script {
     {
         let member = Member::of_round(round);
         let message = fetch_message(alloc, member, self.counts.asked_by(member))?;
+        let body = write_share_fetch_request(alloc, &message)?;
         let head = head_of(78, 1, self.counts.frames);
-        put_sent(alloc, &mut self.text, member.conn(), round, &head, &message)?;
+        put_sent(
+            alloc,
+            &mut self.text,
+            member.conn(),
+            round,
+            &head,
+            body.as_slice(),
+        )?;
         self.counts = self.counts.asked_again(member);
         Ok(())
     }
@@ -82,8 +93,16 @@ impl Script {
         let epoch = self.counts.asked_by(member);
         let last = self.counts.end.saturating_sub(1);
         let message = ack_message(alloc, member, epoch, kind, self.counts.first, last)?;
+        let body = write_share_ack_request(alloc, &message)?;
         let head = head_of(79, 1, self.counts.frames);
-        put_sent(alloc, &mut self.text, member.conn(), round, &head, &message)?;
+        put_sent(
+            alloc,
+            &mut self.text,
+            member.conn(),
+            round,
+            &head,
+            body.as_slice(),
+        )?;
         self.counts = self.counts.asked_again(member);
         Ok(())
     }

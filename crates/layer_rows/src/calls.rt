@@ -1,16 +1,15 @@
 // Each message with its own two calls, which read and write its whole body.
 use flex_fields::{Bytes, NoMemory, WireFault};
 use msgs_base::{
-    ApiVersionsOldReply, ApiVersionsReply, ApiVersionsRequest, DeleteRecordsReply,
-    DeleteRecordsRequest, FindCoordinatorReply, FindCoordinatorRequest, MetadataReply,
-    MetadataRequest, ProduceReply, ProduceRequest, read_api_versions_old_reply,
+    ApiVersionsReply, ApiVersionsRequest, DeleteRecordsReply, DeleteRecordsRequest,
+    FindCoordinatorReply, FindCoordinatorRequest, MetadataReply, MetadataRequest, ProduceReply,
+    ProduceRequest, api_versions_version, metadata_version, produce_version,
     read_api_versions_reply, read_api_versions_request, read_delete_records_reply,
     read_delete_records_request, read_find_coordinator_reply, read_find_coordinator_request,
     read_metadata_reply, read_metadata_request, read_produce_reply, read_produce_request,
-    write_api_versions_old_reply, write_api_versions_reply, write_api_versions_request,
-    write_delete_records_reply, write_delete_records_request, write_find_coordinator_reply,
-    write_find_coordinator_request, write_metadata_reply, write_metadata_request,
-    write_produce_reply, write_produce_request,
+    write_api_versions_reply, write_api_versions_request, write_delete_records_reply,
+    write_delete_records_request, write_find_coordinator_reply, write_find_coordinator_request,
+    write_metadata_reply, write_metadata_request, write_produce_reply, write_produce_request,
 };
 use msgs_group::{
     HeartbeatReply, HeartbeatRequest, read_heartbeat_reply, read_heartbeat_request,
@@ -43,6 +42,15 @@ pub trait Message: Sized {
     fn write(&self, alloc: Global) -> Result<Bytes, NoMemory>;
 }
 
+/// A message of several versions, which is read and written by calls of its own.
+pub trait MessageAt: Sized {
+    /// Reads the whole of the bytes in the version of this number.
+    fn read_at(alloc: Global, number: u16, bytes: &[u8]) -> Result<Self, WireFault>;
+
+    /// Its bytes in the version of this number.
+    fn write_at(&self, alloc: Global, number: u16) -> Result<Bytes, NoMemory>;
+}
+
 impl Message for ApiVersionsRequest {
     fn read(alloc: Global, bytes: &[u8]) -> Result<Self, WireFault> {
         read_api_versions_request(alloc, bytes)
@@ -53,43 +61,33 @@ impl Message for ApiVersionsRequest {
     }
 }
 
-impl Message for ApiVersionsReply {
-    fn read(alloc: Global, bytes: &[u8]) -> Result<Self, WireFault> {
-        read_api_versions_reply(alloc, bytes)
+impl MessageAt for ApiVersionsReply {
+    fn read_at(alloc: Global, number: u16, bytes: &[u8]) -> Result<Self, WireFault> {
+        read_api_versions_reply(alloc, api_versions_version(number), bytes)
     }
 
-    fn write(&self, alloc: Global) -> Result<Bytes, NoMemory> {
-        write_api_versions_reply(alloc, self)
-    }
-}
-
-impl Message for ApiVersionsOldReply {
-    fn read(alloc: Global, bytes: &[u8]) -> Result<Self, WireFault> {
-        read_api_versions_old_reply(alloc, bytes)
-    }
-
-    fn write(&self, alloc: Global) -> Result<Bytes, NoMemory> {
-        write_api_versions_old_reply(alloc, self)
+    fn write_at(&self, alloc: Global, number: u16) -> Result<Bytes, NoMemory> {
+        write_api_versions_reply(alloc, api_versions_version(number), self)
     }
 }
 
-impl Message for MetadataRequest {
-    fn read(alloc: Global, bytes: &[u8]) -> Result<Self, WireFault> {
-        read_metadata_request(alloc, bytes)
+impl MessageAt for MetadataRequest {
+    fn read_at(alloc: Global, number: u16, bytes: &[u8]) -> Result<Self, WireFault> {
+        read_metadata_request(alloc, metadata_version(number), bytes)
     }
 
-    fn write(&self, alloc: Global) -> Result<Bytes, NoMemory> {
-        write_metadata_request(alloc, self)
+    fn write_at(&self, alloc: Global, number: u16) -> Result<Bytes, NoMemory> {
+        write_metadata_request(alloc, metadata_version(number), self)
     }
 }
 
-impl Message for MetadataReply {
-    fn read(alloc: Global, bytes: &[u8]) -> Result<Self, WireFault> {
-        read_metadata_reply(alloc, bytes)
+impl MessageAt for MetadataReply {
+    fn read_at(alloc: Global, number: u16, bytes: &[u8]) -> Result<Self, WireFault> {
+        read_metadata_reply(alloc, metadata_version(number), bytes)
     }
 
-    fn write(&self, alloc: Global) -> Result<Bytes, NoMemory> {
-        write_metadata_reply(alloc, self)
+    fn write_at(&self, alloc: Global, number: u16) -> Result<Bytes, NoMemory> {
+        write_metadata_reply(alloc, metadata_version(number), self)
     }
 }
 
@@ -113,23 +111,23 @@ impl Message for FindCoordinatorReply {
     }
 }
 
-impl Message for ProduceRequest {
-    fn read(alloc: Global, bytes: &[u8]) -> Result<Self, WireFault> {
-        read_produce_request(alloc, bytes)
+impl MessageAt for ProduceRequest {
+    fn read_at(alloc: Global, number: u16, bytes: &[u8]) -> Result<Self, WireFault> {
+        read_produce_request(alloc, produce_version(number), bytes)
     }
 
-    fn write(&self, alloc: Global) -> Result<Bytes, NoMemory> {
-        write_produce_request(alloc, self)
+    fn write_at(&self, alloc: Global, number: u16) -> Result<Bytes, NoMemory> {
+        write_produce_request(alloc, produce_version(number), self)
     }
 }
 
-impl Message for ProduceReply {
-    fn read(alloc: Global, bytes: &[u8]) -> Result<Self, WireFault> {
-        read_produce_reply(alloc, bytes)
+impl MessageAt for ProduceReply {
+    fn read_at(alloc: Global, number: u16, bytes: &[u8]) -> Result<Self, WireFault> {
+        read_produce_reply(alloc, produce_version(number), bytes)
     }
 
-    fn write(&self, alloc: Global) -> Result<Bytes, NoMemory> {
-        write_produce_reply(alloc, self)
+    fn write_at(&self, alloc: Global, number: u16) -> Result<Bytes, NoMemory> {
+        write_produce_reply(alloc, produce_version(number), self)
     }
 }
 

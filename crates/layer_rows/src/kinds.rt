@@ -40,6 +40,22 @@ fn is_front_read<M: Wire>(alloc: Global, bytes: &[u8]) -> bool {
     false
 }
 
+/// What a value that was read is, how it is written, where that isn't how it was read, and whether a front is read.
+pub fn written_told<M: Debug>(
+    alloc: Global,
+    bytes: &[u8],
+    message: &M,
+    written: &Result<Bytes, NoMemory>,
+    front: bool,
+) -> io::Result<String> {
+    let mut text = plain(alloc, message)?;
+    push_written(alloc, &mut text, bytes, written)?;
+    if front {
+        text.push_str(", and a front of it is read")?;
+    }
+    Ok(text)
+}
+
 /// What a value that was read is, and how it is written, where that isn't how it was read.
 pub fn read_told<M: Wire + Debug>(
     alloc: Global,
@@ -47,12 +63,8 @@ pub fn read_told<M: Wire + Debug>(
     message: &M,
     written: &Result<Bytes, NoMemory>,
 ) -> io::Result<String> {
-    let mut text = plain(alloc, message)?;
-    push_written(alloc, &mut text, bytes, written)?;
-    if is_front_read::<M>(alloc, bytes) {
-        text.push_str(", and a front of it is read")?;
-    }
-    Ok(text)
+    let front = is_front_read::<M>(alloc, bytes);
+    written_told(alloc, bytes, message, written, front)
 }
 
 /// What a field is read as, and written.

@@ -1,7 +1,10 @@
--- The reply to Produce of version 9 (ProduceResponse.json): the offset of each batch, or an error.
--- For example one that tells offset 3 for partition 0 of topic `t` has 43 bytes (layer_rows, `its reply with an offset`).
-use Rattle.std.specs.Prelude.{ℕ, ℤ, List, Option, refl}
-use Rattle.flex_fields.specs.Formats.{Format, Shape, structure, array, ◌▹◌, string, null_string, int16, int32, int64}
+-- The reply to Produce of the versions 3 to 9 (ProduceResponse.json): the offset of each batch, or an error.
+-- For example one that tells offset 3 for partition 0 of topic `t` has 43 bytes in version 9 (layer_rows, `its reply with an
+-- offset`).
+use Rattle.std.specs.Prelude.{ℕ, ℤ, negsuc, List, [], Option, None, refl}
+use Rattle.flex_fields.specs.declared.version.Version.{Version}
+use Rattle.flex_fields.specs.Formats.{Shape, int16, int32, int64}
+use Rattle.flex_fields.specs.Versions.{Schema, structure_of, always, since, simply, text, null_text, array_of, ◌▷◌}
 use Rattle.msgs_base.specs.declared.produce_reply.ProduceRecordError.{ProduceRecordError}
 use Rattle.msgs_base.specs.declared.produce_reply.ProducePartitionReply.{ProducePartitionReply}
 use Rattle.msgs_base.specs.declared.produce_reply.ProduceTopicReply.{ProduceTopicReply}
@@ -15,8 +18,11 @@ produce_record_error_shape = record {
   there = λ _. refl;
 }
 
-unfoldable pub produce_record_error : Format ProduceRecordError
-produce_record_error = structure produce_record_error_shape (int32 ▹ null_string)
+unfoldable pub produce_record_error : Version → Schema ProduceRecordError
+produce_record_error v = structure_of v produce_record_error_shape (
+    always (simply int32)
+    ▷ always (null_text v)
+    ) refl
 
 abbrev pub produce_partition_reply_shape : Shape ProducePartitionReply (ℤ × (ℤ × (ℤ × (ℤ × (ℤ × (List ProduceRecordError × Option (List ℕ)))))))
 produce_partition_reply_shape = record {
@@ -34,8 +40,16 @@ produce_partition_reply_shape = record {
   there = λ _. refl;
 }
 
-unfoldable pub produce_partition_reply : Format ProducePartitionReply
-produce_partition_reply = structure produce_partition_reply_shape (int32 ▹ int16 ▹ int64 ▹ int64 ▹ int64 ▹ array produce_record_error ▹ null_string)
+unfoldable pub produce_partition_reply : Version → Schema ProducePartitionReply
+produce_partition_reply v = structure_of v produce_partition_reply_shape (
+    always (simply int32)
+    ▷ always (simply int16)
+    ▷ always (simply int64)
+    ▷ always (simply int64)
+    ▷ since 5 v (negsuc 0) (simply int64)
+    ▷ since 8 v [] (array_of v (produce_record_error v))
+    ▷ since 8 v None (null_text v)
+    ) refl
 
 abbrev pub produce_topic_reply_shape : Shape ProduceTopicReply (List ℕ × List ProducePartitionReply)
 produce_topic_reply_shape = record {
@@ -45,8 +59,11 @@ produce_topic_reply_shape = record {
   there = λ _. refl;
 }
 
-unfoldable pub produce_topic_reply : Format ProduceTopicReply
-produce_topic_reply = structure produce_topic_reply_shape (string ▹ array produce_partition_reply)
+unfoldable pub produce_topic_reply : Version → Schema ProduceTopicReply
+produce_topic_reply v = structure_of v produce_topic_reply_shape (
+    always (text v)
+    ▷ always (array_of v (produce_partition_reply v))
+    ) refl
 
 abbrev pub produce_reply_shape : Shape ProduceReply (List ProduceTopicReply × ℤ)
 produce_reply_shape = record {
@@ -56,5 +73,8 @@ produce_reply_shape = record {
   there = λ _. refl;
 }
 
-unfoldable pub produce_reply : Format ProduceReply
-produce_reply = structure produce_reply_shape (array produce_topic_reply ▹ int32)
+unfoldable pub produce_reply : Version → Schema ProduceReply
+produce_reply v = structure_of v produce_reply_shape (
+    always (array_of v (produce_topic_reply v))
+    ▷ always (simply int32)
+    ) refl

@@ -1,7 +1,11 @@
--- The Produce request of version 9 (ProduceRequest.json): for each topic, by its name, the record batches that its partitions get.
--- For example that of topic `t` with three bytes for partition 0 has 22 bytes (layer_rows, `Produce of one partition`).
+-- The Produce request of the versions 3 to 9 (ProduceRequest.json): for each topic, by its name, the record batches that its
+-- partitions get.
+-- For example that of topic `t` with three bytes for partition 0 has 22 bytes in version 9 (layer_rows, `Produce of one
+-- partition`).
 use Rattle.std.specs.Prelude.{ℕ, ℤ, List, Option, refl}
-use Rattle.flex_fields.specs.Formats.{Format, Shape, structure, array, ◌▹◌, string, null_string, null_byte_string, int16, int32}
+use Rattle.flex_fields.specs.declared.version.Version.{Version}
+use Rattle.flex_fields.specs.Formats.{Shape, int16, int32}
+use Rattle.flex_fields.specs.Versions.{Schema, structure_of, always, simply, text, null_text, null_octets, array_of, ◌▷◌}
 use Rattle.msgs_base.specs.declared.produce_request.ProducePartition.{ProducePartition}
 use Rattle.msgs_base.specs.declared.produce_request.ProduceTopic.{ProduceTopic}
 use Rattle.msgs_base.specs.declared.produce_request.ProduceRequest.{ProduceRequest}
@@ -14,8 +18,11 @@ produce_partition_shape = record {
   there = λ _. refl;
 }
 
-unfoldable pub produce_partition : Format ProducePartition
-produce_partition = structure produce_partition_shape (int32 ▹ null_byte_string)
+unfoldable pub produce_partition : Version → Schema ProducePartition
+produce_partition v = structure_of v produce_partition_shape (
+    always (simply int32)
+    ▷ always (null_octets v)
+    ) refl
 
 abbrev pub produce_topic_shape : Shape ProduceTopic (List ℕ × List ProducePartition)
 produce_topic_shape = record {
@@ -25,8 +32,11 @@ produce_topic_shape = record {
   there = λ _. refl;
 }
 
-unfoldable pub produce_topic : Format ProduceTopic
-produce_topic = structure produce_topic_shape (string ▹ array produce_partition)
+unfoldable pub produce_topic : Version → Schema ProduceTopic
+produce_topic v = structure_of v produce_topic_shape (
+    always (text v)
+    ▷ always (array_of v (produce_partition v))
+    ) refl
 
 abbrev pub produce_request_shape : Shape ProduceRequest (Option (List ℕ) × (ℤ × (ℤ × List ProduceTopic)))
 produce_request_shape = record {
@@ -36,5 +46,10 @@ produce_request_shape = record {
   there = λ _. refl;
 }
 
-unfoldable pub produce_request : Format ProduceRequest
-produce_request = structure produce_request_shape (null_string ▹ int16 ▹ int32 ▹ array produce_topic)
+unfoldable pub produce_request : Version → Schema ProduceRequest
+produce_request v = structure_of v produce_request_shape (
+    always (null_text v)
+    ▷ always (simply int16)
+    ▷ always (simply int32)
+    ▷ always (array_of v (produce_topic v))
+    ) refl

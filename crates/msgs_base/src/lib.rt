@@ -1,27 +1,26 @@
 //! The calls that a Kafka client makes first, ApiVersions, Metadata and FindCoordinator; a producer's call, Produce;
 //! and an operator's, DeleteRecords.
 //!
-//! Each message is a struct, its schema in `specs/`, and two calls that read and write its body.
+//! Each message is a struct, its schema in `specs/`, and two calls that read and write its body. Where it has several
+//! versions, its schema and both calls take the version.
 #![tactic(auto)]
 
-mod api_versions_old_reply;
 mod api_versions_reply;
 mod api_versions_request;
 mod coordinator_of_all;
-mod counted;
 mod delete_records_reply;
 mod delete_records_request;
+mod fields;
 mod find_coordinator_reply;
 mod find_coordinator_request;
+mod lent;
 mod metadata_reply;
 mod metadata_request;
 mod produce_reply;
 mod produce_request;
 mod texts;
+mod versions;
 
-pub use api_versions_old_reply::{
-    ApiVersionsOldReply, OldApiVersion, read_api_versions_old_reply, write_api_versions_old_reply,
-};
 pub use api_versions_reply::{
     ApiVersion, ApiVersionsReply, read_api_versions_reply, write_api_versions_reply,
 };
@@ -58,3 +57,4 @@ pub use produce_request::{
     ProducePartition, ProduceRequest, ProduceTopic, read_produce_request, write_produce_request,
 };
 pub use texts::Texts;
+pub use versions::{api_versions_version, metadata_version, produce_version};

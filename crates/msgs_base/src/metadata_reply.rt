@@ -1,10 +1,13 @@
 ghost use Rattle.std.specs.Prelude.{IfOk};
-ghost use Rattle.flex_fields.specs.Formats.{ReadsWhole, IsSpelling};
+ghost use Rattle.flex_fields.specs.Formats.{ReadsWhole};
+ghost use Rattle.flex_fields.specs.Versions.{IsTold};
 ghost use Rattle.msgs_base.specs.MetadataReply.{metadata_broker, metadata_partition, metadata_topic, metadata_reply};
 
+use crate::fields::{Always, Between, NullSince, Since, take_fields_at, take_structure_at};
+use crate::lent::{PutBetween, PutNullSince, PutSince, pairs, put_fields_at};
 use flex_fields::{
-    Bytes, Cursor, Items, NoMemory, Out, Text, Wire, WireFault, put_structure, read_whole,
-    take_structure, write_whole,
+    Bytes, Cursor, Items, NoMemory, Out, Text, Version, Versioned, WireFault, read_whole_at,
+    write_whole_at,
 };
 use std::alloc::Global;
 use uuid::Uuid;
@@ -49,139 +52,189 @@ pub struct MetadataReply {
     pub cluster_id: Option<Text>,
     pub controller_id: i32,
     pub topics: Items<MetadataTopic>,
+    pub cluster_authorized_operations: i32,
 }
 
-impl Wire for MetadataBroker {
-    ghost format = { metadata_broker };
+/// Operations that aren't told.
+const NO_OPERATIONS: i32 = i32::MIN;
+
+impl Versioned for MetadataBroker {
+    ghost schema = { metadata_broker };
 
     #[tactic(auto, unfolding(crate::specs::MetadataReply::metadata_broker))]
-    fn take(alloc: Global, cursor: &mut Cursor<'_>) -> Result<Self, WireFault> {
-        take_structure!(
+    fn take_at(
+        alloc: Global,
+        version: Version,
+        cursor: &mut Cursor<'_>,
+    ) -> Result<Self, WireFault> {
+        take_structure_at!(
             alloc,
+            version,
             cursor,
             MetadataBroker {
-                node_id,
-                host,
-                port,
-                rack
+                node_id: Always,
+                host: Always,
+                port: Always,
+                rack: Since(1, None),
             }
         )
     }
 
-    fn put(&self, out: &mut Out) -> Result<(), NoMemory> {
-        put_structure!(out, self, [node_id, host, port, rack])
+    fn put_at(&self, version: Version, out: &mut Out) -> Result<(), NoMemory> {
+        put_fields_at(
+            version,
+            out,
+            pairs!(
+                &self.node_id,
+                &self.host,
+                &self.port,
+                PutSince(1, &self.rack),
+            ),
+        )
     }
 }
 
-impl Wire for MetadataPartition {
-    ghost format = { metadata_partition };
+impl Versioned for MetadataPartition {
+    ghost schema = { metadata_partition };
 
     #[tactic(auto, unfolding(crate::specs::MetadataReply::metadata_partition))]
-    fn take(alloc: Global, cursor: &mut Cursor<'_>) -> Result<Self, WireFault> {
-        take_structure!(
+    fn take_at(
+        alloc: Global,
+        version: Version,
+        cursor: &mut Cursor<'_>,
+    ) -> Result<Self, WireFault> {
+        take_structure_at!(
             alloc,
+            version,
             cursor,
             MetadataPartition {
-                error_code,
-                partition_index,
-                leader_id,
-                leader_epoch,
-                replica_nodes,
-                isr_nodes,
-                offline_replicas
+                error_code: Always,
+                partition_index: Always,
+                leader_id: Always,
+                leader_epoch: Since(7, -1),
+                replica_nodes: Always,
+                isr_nodes: Always,
+                offline_replicas: Since(5, Items::new(Vec::new(alloc))),
             }
         )
     }
 
-    fn put(&self, out: &mut Out) -> Result<(), NoMemory> {
-        put_structure!(
+    fn put_at(&self, version: Version, out: &mut Out) -> Result<(), NoMemory> {
+        put_fields_at(
+            version,
             out,
-            self,
-            [
-                error_code,
-                partition_index,
-                leader_id,
-                leader_epoch,
-                replica_nodes,
-                isr_nodes,
-                offline_replicas
-            ]
+            pairs!(
+                &self.error_code,
+                &self.partition_index,
+                &self.leader_id,
+                PutSince(7, &self.leader_epoch),
+                &self.replica_nodes,
+                &self.isr_nodes,
+                PutSince(5, &self.offline_replicas),
+            ),
         )
     }
 }
 
-impl Wire for MetadataTopic {
-    ghost format = { metadata_topic };
+impl Versioned for MetadataTopic {
+    ghost schema = { metadata_topic };
 
     #[tactic(auto, unfolding(crate::specs::MetadataReply::metadata_topic))]
-    fn take(alloc: Global, cursor: &mut Cursor<'_>) -> Result<Self, WireFault> {
-        take_structure!(
+    fn take_at(
+        alloc: Global,
+        version: Version,
+        cursor: &mut Cursor<'_>,
+    ) -> Result<Self, WireFault> {
+        take_structure_at!(
             alloc,
+            version,
             cursor,
             MetadataTopic {
-                error_code,
-                name,
-                topic_id,
-                is_internal,
-                partitions,
-                topic_authorized_operations
+                error_code: Always,
+                name: NullSince(12),
+                topic_id: Since(10, Uuid::nil()),
+                is_internal: Since(1, false),
+                partitions: Always,
+                topic_authorized_operations: Since(8, NO_OPERATIONS),
             }
         )
     }
 
-    fn put(&self, out: &mut Out) -> Result<(), NoMemory> {
-        put_structure!(
+    fn put_at(&self, version: Version, out: &mut Out) -> Result<(), NoMemory> {
+        put_fields_at(
+            version,
             out,
-            self,
-            [
-                error_code,
-                name,
-                topic_id,
-                is_internal,
-                partitions,
-                topic_authorized_operations
-            ]
+            pairs!(
+                &self.error_code,
+                PutNullSince(12, &self.name),
+                PutSince(10, &self.topic_id),
+                PutSince(1, &self.is_internal),
+                &self.partitions,
+                PutSince(8, &self.topic_authorized_operations),
+            ),
         )
     }
 }
 
-impl Wire for MetadataReply {
-    ghost format = { metadata_reply };
+impl Versioned for MetadataReply {
+    ghost schema = { metadata_reply };
 
     #[tactic(auto, unfolding(crate::specs::MetadataReply::metadata_reply))]
-    fn take(alloc: Global, cursor: &mut Cursor<'_>) -> Result<Self, WireFault> {
-        take_structure!(
+    fn take_at(
+        alloc: Global,
+        version: Version,
+        cursor: &mut Cursor<'_>,
+    ) -> Result<Self, WireFault> {
+        take_structure_at!(
             alloc,
+            version,
             cursor,
             MetadataReply {
-                throttle_time_ms,
-                brokers,
-                cluster_id,
-                controller_id,
-                topics
+                throttle_time_ms: Since(3, 0),
+                brokers: Always,
+                cluster_id: Since(2, None),
+                controller_id: Since(1, -1),
+                topics: Always,
+                cluster_authorized_operations: Between(8, 10, NO_OPERATIONS),
             }
         )
     }
 
-    fn put(&self, out: &mut Out) -> Result<(), NoMemory> {
-        put_structure!(
+    fn put_at(&self, version: Version, out: &mut Out) -> Result<(), NoMemory> {
+        put_fields_at(
+            version,
             out,
-            self,
-            [throttle_time_ms, brokers, cluster_id, controller_id, topics]
+            pairs!(
+                PutSince(3, &self.throttle_time_ms),
+                &self.brokers,
+                PutSince(2, &self.cluster_id),
+                PutSince(1, &self.controller_id),
+                &self.topics,
+                PutBetween(8, 10, &self.cluster_authorized_operations),
+            ),
         )
     }
 }
 
-/// Reads the body of the reply to Metadata. Places count from its first byte.
-pub fn read_metadata_reply(alloc: Global, bytes: &[u8]) -> Result<MetadataReply, WireFault>
-    ensures { ReadsWhole metadata_reply bytes.now result }
+/// Reads the body of the reply to Metadata of this version. Places count from its first byte.
+pub fn read_metadata_reply(
+    alloc: Global,
+    version: Version,
+    bytes: &[u8],
+) -> Result<MetadataReply, WireFault>
+    ensures { ReadsWhole (metadata_reply version).format bytes.now result }
 {
-    read_whole(alloc, bytes)
+    read_whole_at(alloc, version, bytes)
 }
 
-/// Writes the body of the reply to Metadata.
-pub fn write_metadata_reply(alloc: Global, message: &MetadataReply) -> Result<Bytes, NoMemory>
-    ensures { IfOk result (IsSpelling metadata_reply message.now) }
+/// Writes the body of the reply to Metadata in this version. A text or an array that is too long for the length
+/// that it has there is answered as want of memory.
+pub fn write_metadata_reply(
+    alloc: Global,
+    version: Version,
+    message: &MetadataReply,
+) -> Result<Bytes, NoMemory>
+    ensures { IfOk result (IsTold (metadata_reply version) message.now) }
 {
-    write_whole(alloc, message)
+    write_whole_at(alloc, version, message)
 }

@@ -1,10 +1,13 @@
 ghost use Rattle.std.specs.Prelude.{IfOk};
-ghost use Rattle.flex_fields.specs.Formats.{ReadsWhole, IsSpelling};
+ghost use Rattle.flex_fields.specs.Formats.{ReadsWhole};
+ghost use Rattle.flex_fields.specs.Versions.{IsTold};
 ghost use Rattle.msgs_base.specs.ProduceReply.{produce_record_error, produce_partition_reply, produce_topic_reply, produce_reply};
 
+use crate::fields::{Always, Since, take_fields_at, take_structure_at};
+use crate::lent::{PutSince, pairs, put_fields_at};
 use flex_fields::{
-    Bytes, Cursor, Items, NoMemory, Out, Text, Wire, WireFault, put_structure, read_whole,
-    take_structure, write_whole,
+    Bytes, Cursor, Items, NoMemory, Out, Text, Version, Versioned, WireFault, read_whole_at,
+    write_whole_at,
 };
 use std::alloc::Global;
 
@@ -41,113 +44,150 @@ pub struct ProduceReply {
     pub throttle_time_ms: i32,
 }
 
-impl Wire for ProduceRecordError {
-    ghost format = { produce_record_error };
+impl Versioned for ProduceRecordError {
+    ghost schema = { produce_record_error };
 
     #[tactic(auto, unfolding(crate::specs::ProduceReply::produce_record_error))]
-    fn take(alloc: Global, cursor: &mut Cursor<'_>) -> Result<Self, WireFault> {
-        take_structure!(
+    fn take_at(
+        alloc: Global,
+        version: Version,
+        cursor: &mut Cursor<'_>,
+    ) -> Result<Self, WireFault> {
+        take_structure_at!(
             alloc,
+            version,
             cursor,
             ProduceRecordError {
-                batch_index,
-                batch_index_error_message,
+                batch_index: Always,
+                batch_index_error_message: Always,
             }
         )
     }
 
-    fn put(&self, out: &mut Out) -> Result<(), NoMemory> {
-        put_structure!(out, self, [batch_index, batch_index_error_message])
+    fn put_at(&self, version: Version, out: &mut Out) -> Result<(), NoMemory> {
+        put_fields_at(
+            version,
+            out,
+            pairs!(&self.batch_index, &self.batch_index_error_message,),
+        )
     }
 }
 
-impl Wire for ProducePartitionReply {
-    ghost format = { produce_partition_reply };
+impl Versioned for ProducePartitionReply {
+    ghost schema = { produce_partition_reply };
 
     #[tactic(auto, unfolding(crate::specs::ProduceReply::produce_partition_reply))]
-    fn take(alloc: Global, cursor: &mut Cursor<'_>) -> Result<Self, WireFault> {
-        take_structure!(
+    fn take_at(
+        alloc: Global,
+        version: Version,
+        cursor: &mut Cursor<'_>,
+    ) -> Result<Self, WireFault> {
+        take_structure_at!(
             alloc,
+            version,
             cursor,
             ProducePartitionReply {
-                index,
-                error_code,
-                base_offset,
-                log_append_time_ms,
-                log_start_offset,
-                record_errors,
-                error_message,
+                index: Always,
+                error_code: Always,
+                base_offset: Always,
+                log_append_time_ms: Always,
+                log_start_offset: Since(5, -1),
+                record_errors: Since(8, Items::new(Vec::new(alloc))),
+                error_message: Since(8, None),
             }
         )
     }
 
-    fn put(&self, out: &mut Out) -> Result<(), NoMemory> {
-        put_structure!(
+    fn put_at(&self, version: Version, out: &mut Out) -> Result<(), NoMemory> {
+        put_fields_at(
+            version,
             out,
-            self,
-            [
-                index,
-                error_code,
-                base_offset,
-                log_append_time_ms,
-                log_start_offset,
-                record_errors,
-                error_message,
-            ]
+            pairs!(
+                &self.index,
+                &self.error_code,
+                &self.base_offset,
+                &self.log_append_time_ms,
+                PutSince(5, &self.log_start_offset),
+                PutSince(8, &self.record_errors),
+                PutSince(8, &self.error_message),
+            ),
         )
     }
 }
 
-impl Wire for ProduceTopicReply {
-    ghost format = { produce_topic_reply };
+impl Versioned for ProduceTopicReply {
+    ghost schema = { produce_topic_reply };
 
     #[tactic(auto, unfolding(crate::specs::ProduceReply::produce_topic_reply))]
-    fn take(alloc: Global, cursor: &mut Cursor<'_>) -> Result<Self, WireFault> {
-        take_structure!(
+    fn take_at(
+        alloc: Global,
+        version: Version,
+        cursor: &mut Cursor<'_>,
+    ) -> Result<Self, WireFault> {
+        take_structure_at!(
             alloc,
+            version,
             cursor,
             ProduceTopicReply {
-                name,
-                partition_responses
+                name: Always,
+                partition_responses: Always,
             }
         )
     }
 
-    fn put(&self, out: &mut Out) -> Result<(), NoMemory> {
-        put_structure!(out, self, [name, partition_responses])
+    fn put_at(&self, version: Version, out: &mut Out) -> Result<(), NoMemory> {
+        put_fields_at(version, out, pairs!(&self.name, &self.partition_responses,))
     }
 }
 
-impl Wire for ProduceReply {
-    ghost format = { produce_reply };
+impl Versioned for ProduceReply {
+    ghost schema = { produce_reply };
 
     #[tactic(auto, unfolding(crate::specs::ProduceReply::produce_reply))]
-    fn take(alloc: Global, cursor: &mut Cursor<'_>) -> Result<Self, WireFault> {
-        take_structure!(
+    fn take_at(
+        alloc: Global,
+        version: Version,
+        cursor: &mut Cursor<'_>,
+    ) -> Result<Self, WireFault> {
+        take_structure_at!(
             alloc,
+            version,
             cursor,
             ProduceReply {
-                responses,
-                throttle_time_ms
+                responses: Always,
+                throttle_time_ms: Always,
             }
         )
     }
 
-    fn put(&self, out: &mut Out) -> Result<(), NoMemory> {
-        put_structure!(out, self, [responses, throttle_time_ms])
+    fn put_at(&self, version: Version, out: &mut Out) -> Result<(), NoMemory> {
+        put_fields_at(
+            version,
+            out,
+            pairs!(&self.responses, &self.throttle_time_ms,),
+        )
     }
 }
 
-/// Reads the body of the reply to Produce. Places count from its first byte.
-pub fn read_produce_reply(alloc: Global, bytes: &[u8]) -> Result<ProduceReply, WireFault>
-    ensures { ReadsWhole produce_reply bytes.now result }
+/// Reads the body of the reply to Produce of this version. Places count from its first byte.
+pub fn read_produce_reply(
+    alloc: Global,
+    version: Version,
+    bytes: &[u8],
+) -> Result<ProduceReply, WireFault>
+    ensures { ReadsWhole (produce_reply version).format bytes.now result }
 {
-    read_whole(alloc, bytes)
+    read_whole_at(alloc, version, bytes)
 }
 
-/// Writes the body of the reply to Produce.
-pub fn write_produce_reply(alloc: Global, message: &ProduceReply) -> Result<Bytes, NoMemory>
-    ensures { IfOk result (IsSpelling produce_reply message.now) }
+/// Writes the body of the reply to Produce in this version. A text or an array that is too long for the length
+/// that it has there is answered as want of memory.
+pub fn write_produce_reply(
+    alloc: Global,
+    version: Version,
+    message: &ProduceReply,
+) -> Result<Bytes, NoMemory>
+    ensures { IfOk result (IsTold (produce_reply version) message.now) }
 {
-    write_whole(alloc, message)
+    write_whole_at(alloc, version, message)
 }

@@ -1,10 +1,13 @@
-ghost use Rattle.std.specs.Prelude.{IfOk, Option, OnOk, OnErr};
-ghost use Rattle.flex_fields.specs.Formats.{ReadsWhole, IsSpelling, Writes, StartsWith, null_byte_string};
+ghost use Rattle.std.specs.Prelude.{IfOk};
+ghost use Rattle.flex_fields.specs.Formats.{ReadsWhole};
+ghost use Rattle.flex_fields.specs.Versions.{IsTold};
 ghost use Rattle.msgs_base.specs.ProduceRequest.{produce_partition, produce_topic, produce_request};
 
+use crate::fields::{Always, take_fields_at, take_structure_at};
+use crate::lent::{pairs, put_fields_at};
 use flex_fields::{
-    Bytes, Cursor, Items, NoMemory, Out, Text, Wire, WireFault, put_structure, read_whole,
-    take_structure, write_whole,
+    Bytes, Cursor, Items, NoMemory, Out, Text, Version, Versioned, WireFault, read_whole_at,
+    write_whole_at,
 };
 use std::alloc::Global;
 
@@ -31,96 +34,112 @@ pub struct ProduceRequest {
     pub topic_data: Items<ProduceTopic>,
 }
 
-/// The most bytes whose number and one have 32 bits.
-const MOST_BYTES: usize = u32::MAX as usize - 1;
-
-// Bytes or null. More bytes than their length can say are as many as no memory holds.
-fn put_records(out: &mut Out, records: &Option<Bytes>) -> Result<(), NoMemory>
-    ensures ok { OnOk result (Writes null_byte_string out.old out.new records.now) }
-    ensures err { OnErr result (StartsWith out.old out.new) }
-{
-    let Some(bytes) = records else {
-        return out.put_null_bytes(None);
-    };
-    let bytes = bytes.as_slice();
-    if bytes.len() > MOST_BYTES {
-        return Err(NoMemory);
-    }
-    out.put_null_bytes(Some(bytes))
-}
-
-impl Wire for ProducePartition {
-    ghost format = { produce_partition };
+impl Versioned for ProducePartition {
+    ghost schema = { produce_partition };
 
     #[tactic(auto, unfolding(crate::specs::ProduceRequest::produce_partition))]
-    fn take(alloc: Global, cursor: &mut Cursor<'_>) -> Result<Self, WireFault> {
-        let index = cursor.take_i32()?;
-        let records = cursor.take_null_bytes(alloc)?;
-        cursor.skip_tags()?;
-        Ok(ProducePartition { index, records })
+    fn take_at(
+        alloc: Global,
+        version: Version,
+        cursor: &mut Cursor<'_>,
+    ) -> Result<Self, WireFault> {
+        take_structure_at!(
+            alloc,
+            version,
+            cursor,
+            ProducePartition {
+                index: Always,
+                records: Always,
+            }
+        )
     }
 
-    fn put(&self, out: &mut Out) -> Result<(), NoMemory> {
-        self.index.put(out)?;
-        put_records(out, &self.records)?;
-        out.put_tags()?;
-        Ok(())
+    fn put_at(&self, version: Version, out: &mut Out) -> Result<(), NoMemory> {
+        put_fields_at(version, out, pairs!(&self.index, &self.records))
     }
 }
 
-impl Wire for ProduceTopic {
-    ghost format = { produce_topic };
+impl Versioned for ProduceTopic {
+    ghost schema = { produce_topic };
 
     #[tactic(auto, unfolding(crate::specs::ProduceRequest::produce_topic))]
-    fn take(alloc: Global, cursor: &mut Cursor<'_>) -> Result<Self, WireFault> {
-        take_structure!(
+    fn take_at(
+        alloc: Global,
+        version: Version,
+        cursor: &mut Cursor<'_>,
+    ) -> Result<Self, WireFault> {
+        take_structure_at!(
             alloc,
+            version,
             cursor,
             ProduceTopic {
-                name,
-                partition_data
+                name: Always,
+                partition_data: Always,
             }
         )
     }
 
-    fn put(&self, out: &mut Out) -> Result<(), NoMemory> {
-        put_structure!(out, self, [name, partition_data])
+    fn put_at(&self, version: Version, out: &mut Out) -> Result<(), NoMemory> {
+        put_fields_at(version, out, pairs!(&self.name, &self.partition_data,))
     }
 }
 
-impl Wire for ProduceRequest {
-    ghost format = { produce_request };
+impl Versioned for ProduceRequest {
+    ghost schema = { produce_request };
 
     #[tactic(auto, unfolding(crate::specs::ProduceRequest::produce_request))]
-    fn take(alloc: Global, cursor: &mut Cursor<'_>) -> Result<Self, WireFault> {
-        take_structure!(
+    fn take_at(
+        alloc: Global,
+        version: Version,
+        cursor: &mut Cursor<'_>,
+    ) -> Result<Self, WireFault> {
+        take_structure_at!(
             alloc,
+            version,
             cursor,
             ProduceRequest {
-                transactional_id,
-                acks,
-                timeout_ms,
-                topic_data
+                transactional_id: Always,
+                acks: Always,
+                timeout_ms: Always,
+                topic_data: Always,
             }
         )
     }
 
-    fn put(&self, out: &mut Out) -> Result<(), NoMemory> {
-        put_structure!(out, self, [transactional_id, acks, timeout_ms, topic_data])
+    fn put_at(&self, version: Version, out: &mut Out) -> Result<(), NoMemory> {
+        put_fields_at(
+            version,
+            out,
+            pairs!(
+                &self.transactional_id,
+                &self.acks,
+                &self.timeout_ms,
+                &self.topic_data,
+            ),
+        )
     }
 }
 
-/// Reads the body of a Produce request; the records of each partition are copied once. Places count from its first
-/// byte.
-pub fn read_produce_request(alloc: Global, bytes: &[u8]) -> Result<ProduceRequest, WireFault>
-    ensures { ReadsWhole produce_request bytes.now result }
+/// Reads the body of a Produce request of this version; the records of each partition are copied once. Places count
+/// from its first byte.
+pub fn read_produce_request(
+    alloc: Global,
+    version: Version,
+    bytes: &[u8],
+) -> Result<ProduceRequest, WireFault>
+    ensures { ReadsWhole (produce_request version).format bytes.now result }
 {
-    read_whole(alloc, bytes)
+    read_whole_at(alloc, version, bytes)
 }
 
-/// Writes the body of a Produce request. Records of 2^32 - 1 bytes and more are answered as want of memory.
-pub fn write_produce_request(alloc: Global, message: &ProduceRequest) -> Result<Bytes, NoMemory>
-    ensures { IfOk result (IsSpelling produce_request message.now) }
+/// Writes the body of a Produce request in this version. A text, an array or records that are too long for the length
+/// that they have there, and records of 2^31 bytes and more, are answered as want of memory.
+pub fn write_produce_request(
+    alloc: Global,
+    version: Version,
+    message: &ProduceRequest,
+) -> Result<Bytes, NoMemory>
+    ensures { IfOk result (IsTold (produce_request version) message.now) }
 {
-    write_whole(alloc, message)
+    write_whole_at(alloc, version, message)
 }

@@ -7,5 +7,5 @@ use Rattle.gen_load.proofs.script.Script.settle.Goals as goal
 
 pub returns : goal.returns
 returns c = adds_one _ _ (settles c.args.round c.args.kind)
-    (rw (c.in_ok-message.ensures, c.conn.ensures, c.head_of-head.ensures, c.asked_by-epoch.ensures, c.saturating_sub-last.ensures, c.of_round-member.ensures) at c.in_ok-put_sent.ensures)
+    (rw (c.as_slice.ensures, c.in_ok-body.ensures.spelled, c.in_ok-message.ensures, c.conn.ensures, c.head_of-head.ensures, c.asked_by-epoch.ensures, c.saturating_sub-last.ensures, c.of_round-member.ensures) at c.in_ok-put_sent.ensures)
     (c.asked_again-self.ensures ∙ ap (λ (m : Member). asked_again m c.args.self.now.counts) c.of_round-member.ensures)
