@@ -145,9 +145,9 @@ module _ (counts : Counts) (ends : Ends) (conf : ConfigParts) (old new : Machine
   asked_next id now hand Gone conn after a d = not_called d.none
 
 -- what is asked is what the work awaits
-asks_its : (conf : ConfigParts) (conn : ConnParts) (correlation : ℤ) (hand : Hand) → (turn conf conn).conn.work ≡ Busy correlation hand
-    → (part : Part) → (turn conf conn).next ≡ Ask part → hand_part hand ≡ part
-asks_its conf conn correlation hand busy part next =
+asks_its : (conf : ConfigParts) (conn : ConnParts) (tags : Bool) (correlation : ℤ) (hand : Hand)
+    → (turn conf conn).conn.work ≡ Busy tags correlation hand → (part : Part) → (turn conf conn).next ≡ Ask part → hand_part hand ≡ part
+asks_its conf conn tags correlation hand busy part next =
     let it : Awaits (turn conf conn).next (turn conf conn).conn = awaits conf conn (turn conf conn).conn (Ok (turn conf conn).next) (refl, refl) in
     let asked : awaited_part_at (turn conf conn).conn.work (turn conf conn).conn.releases ≡ Some part =
     subst (λ (n : Next). Awaits n (turn conf conn).conn) next it in
@@ -173,7 +173,7 @@ module _ (conf : ConfigParts) (s : Step) (step : IsStepOf conf s) where
       let turns : TakesTurn conf C E s.before.machine h.id h.now h.conn s.call s.outcomes s.after.machine =
       subst (λ (o : Option ConnParts). Serves conf C E s.before.machine h.id h.now o s.call s.outcomes s.after.machine) h.there serves in
       asked_next C E conf s.before.machine s.after.machine s.call s.outcomes did is h.id h.now hand
-      (turn conf h.conn).next (turn conf h.conn).conn turns.after (asks_its conf h.conn h.correlation hand h.busy) turns.does
+      (turn conf h.conn).next (turn conf h.conn).conn turns.after (asks_its conf h.conn h.tags h.correlation hand h.busy) turns.does
 
   -- ---- expiries and releases
 

@@ -92,11 +92,12 @@ TellsEntry (Delete a) answer = IsStorageError ((state_acts delete_means partitio
 pub record IsInHand (conf : ConfigParts) (s : Step) (hand : Hand) : Type 0 where
   pub id : ℕ
   pub now : ℕ
+  pub tags : Bool
   pub correlation : ℤ
   pub conn : ConnParts
   pub event : s.event ≡ StepOf id now
   pub there : conn_at id s.before.machine.connections ≡ Some conn
-  pub busy : (turn conf conn).conn.work ≡ Busy correlation hand
+  pub busy : (turn conf conn).conn.work ≡ Busy tags correlation hand
 
 pub record TellsStoreFaults (conf : ConfigParts) (s : Step) : Type 0 where
   pub expiry : (shard : ℕ) (hosted : Hosted) (freed : ℕ) (group : List ℕ) (fault : StoreFault) →

@@ -10,6 +10,7 @@ use Rattle.topic_conf.specs.Configs.{ConfigParts}
 use Rattle.topic_conf.specs.declared.topic.Topic.{Topic}
 use Rattle.topic_conf.specs.Topics.{shard_at, partitions}
 use Rattle.topic_conf.proofs.Shards.{shard_below}
+use Rattle.flex_fields.specs.declared.version.Version.{Version}
 use Rattle.msgs_base.specs.declared.delete_records_request.DeleteRecordsPartition.{DeleteRecordsPartition}
 use Rattle.msgs_base.specs.declared.delete_records_request.DeleteRecordsTopic.{DeleteRecordsTopic}
 use Rattle.msgs_base.specs.declared.delete_records_request.DeleteRecordsRequest.{DeleteRecordsRequest}
@@ -153,8 +154,8 @@ module _ (topics : List Topic) where
       own p = offer_hosted p.index (produce_fate_of topics refusal t.name p) (λ shard batch e.
           named_below topics (id_named topics t.name) p.index shard (offered refusal (shard_in topics (id_named topics t.name) p.index) p.records shard batch e))
 
-  pub produce_hosted : (m : ProduceRequest) → AsksHosted (partitions topics) (produce_talk topics m)
-  produce_hosted m = stage_hosted produce_acts (partitions topics) (produce_hand m) (flat_map (offers_in topics (request_refusal m.acks m.transactional_id)) m.topic_data)
+  pub produce_hosted : (version : Version) (m : ProduceRequest) → AsksHosted (partitions topics) (produce_talk version topics m)
+  produce_hosted version m = stage_hosted produce_acts (partitions topics) (produce_hand version m) (flat_map (offers_in topics (request_refusal m.acks m.transactional_id)) m.topic_data)
       (groups_hosted produce_acts (partitions topics) (offers_in topics (request_refusal m.acks m.transactional_id)) m.topic_data
       (offers_hosted (request_refusal m.acks m.transactional_id)))
 

@@ -3,14 +3,14 @@ use Rattle.std.proofs.Common.{◌≡◌, ℕ, ℤ, Bool, true, false, List, [], 
 use Rattle.std.proofs.Common.{refl, sym, subst, if◌then◌else◌}
 use Rattle.std.proofs.lemmas.List.Elements.{All-nil, All-head, All-drop}
 use Rattle.flex_fields.specs.declared.fault.WireFault.{WireFault}
+use Rattle.flex_fields.specs.declared.version.Version.{Version}
 use Rattle.flex_fields.specs.Reading.{At}
 use Rattle.share_model.specs.declared.close_cause.CloseCause.{CloseCause}
 use Rattle.share_model.specs.declared.close_cause.CloseCause.TheVariants.{TooLong as CauseTooLong, LongReply}
 use Rattle.topic_conf.specs.Configs.{ConfigParts}
 use Rattle.topic_conf.specs.Topics.{partitions}
 use Rattle.req_head.specs.InTwo.{head_start, head_rest}
-use Rattle.msgs_base.specs.ApiVersionsOldReply.{api_versions_old_reply}
-use Rattle.msgs_base.specs.ApiVersionsRequest.{api_versions_request}
+use Rattle.msgs_base.specs.ApiVersionsReply.{api_versions_reply}
 use Rattle.msgs_base.specs.MetadataRequest.{metadata_request}
 use Rattle.msgs_base.specs.FindCoordinatorRequest.{find_coordinator_request}
 use Rattle.msgs_base.specs.DeleteRecordsRequest.{delete_records_request}
@@ -52,14 +52,14 @@ use Rattle.conn_core.specs.declared.stream.Front.{Front}
 use Rattle.conn_core.specs.declared.stream.Front.TheVariants.{Partial, TooLong, Whole}
 use Rattle.conn_core.specs.declared.work.Work.{Work}
 use Rattle.conn_core.specs.declared.work.Work.TheVariants.{Free, Busy, Overlong, Closing}
-use Rattle.conn_core.specs.Served.{api_at}
-use Rattle.conn_core.specs.Versions.{old_versions_answer}
+use Rattle.conn_core.specs.Served.{overlooks, version_at, api_at}
+use Rattle.conn_core.specs.Versions.{other_versions_answer, version_0}
 use Rattle.conn_core.specs.Stream.{front_of, frame_at, behind_frame}
 use Rattle.conn_core.specs.Frames.{reply_frame}
 use Rattle.conn_core.specs.Hands.{hand_stage_after}
 use Rattle.conn_core.specs.Beginning.{metadata_begins, coordinator_begins, versions_begins, produce_begins, delete_records_begins, fetch_begins, acknowledge_begins}
 use Rattle.conn_core.specs.Beginning.{heartbeat_begins, initialize_begins, read_begins, write_begins, delete_begins}
-use Rattle.conn_core.specs.Judging.{message_at, message_verdict, reply_verdict, body_verdict, head_verdict, api_verdict, is_other_version, call_verdict, start_verdict, verdict}
+use Rattle.conn_core.specs.Judging.{message_at, versions_request_at, message_verdict, reply_verdict, body_verdict, head_verdict, api_verdict, is_other_version, call_verdict, start_verdict, verdict}
 use Rattle.conn_core.specs.Conns.{ConnParts, conn_after_bytes_at, conn_after_end_at, conn_after_end, taken_up}
 use Rattle.conn_core.specs.Turning.{Turn, reply_turn, stage_turn, verdict_turn, front_turn, work_turn, turn, closing_turn, next_release}
 use Rattle.conn_core.specs.Turning.{conn_with_reply, conn_at_stage, conn_after_answer_at}
@@ -91,63 +91,67 @@ module _ (conf : ConfigParts) where
     message_hosted begins each tags correlation (Ok m) = each m
     message_hosted begins each tags correlation (Err place) = tt
 
-    body_hosted : (api : Api) (correlation : ℤ) (at : At) → VerdictHosted sessions (body_verdict conf sessions api correlation at)
-    body_hosted Metadata correlation at = message_hosted (metadata_begins conf sessions) (λ m. record { stage = tt; leaves = all }) true correlation (message_at metadata_request at)
-    body_hosted FindCoordinator correlation at =
-        message_hosted (coordinator_begins conf sessions) (λ m. record { stage = tt; leaves = all }) true correlation (message_at find_coordinator_request at)
-    body_hosted ApiVersions correlation at = message_hosted (versions_begins conf sessions) (λ m. record { stage = tt; leaves = all }) false correlation (message_at api_versions_request at)
-    body_hosted Produce correlation at =
-        message_hosted (produce_begins conf sessions)
-        (λ m. record { stage = subst (AsksHosted count) (sym (keeps_to_talk.produce conf sessions m)) (produce_hosted conf.topics m); leaves = all })
-        true correlation (message_at produce_request at)
-    body_hosted DeleteRecords correlation at =
+    body_hosted : (api : Api) (version : Version) (correlation : ℤ) (at : At) → VerdictHosted sessions (body_verdict conf sessions api version correlation at)
+    body_hosted Metadata version correlation at =
+        message_hosted (metadata_begins version conf sessions) (λ m. record { stage = tt; leaves = all }) version.flexible correlation
+        (message_at (overlooks conf.versions Metadata) (metadata_request version).format at)
+    body_hosted FindCoordinator version correlation at =
+        message_hosted (coordinator_begins conf sessions) (λ m. record { stage = tt; leaves = all }) true correlation (message_at false find_coordinator_request at)
+    body_hosted ApiVersions version correlation at =
+        message_hosted (versions_begins version conf sessions) (λ m. record { stage = tt; leaves = all }) false correlation (versions_request_at version.flexible at)
+    body_hosted Produce version correlation at =
+        message_hosted (produce_begins version conf sessions)
+        (λ m. record { stage = subst (AsksHosted count) (sym (keeps_to_talk.produce version conf sessions m)) (produce_hosted conf.topics version m); leaves = all })
+        version.flexible correlation (message_at false (produce_request version).format at)
+    body_hosted DeleteRecords version correlation at =
         message_hosted (delete_records_begins conf sessions)
         (λ m. record { stage = subst (AsksHosted count) (sym (keeps_to_talk.delete_records conf sessions m)) (delete_records_hosted conf.topics m); leaves = all })
-        true correlation (message_at delete_records_request at)
-    body_hosted ShareFetch correlation at =
+        true correlation (message_at false delete_records_request at)
+    body_hosted ShareFetch version correlation at =
         message_hosted (fetch_begins conf sessions)
         (λ m. record { stage = subst (AsksHosted count) (sym (keeps_to_talk.fetch conf sessions m)) (fetch_hosted conf sessions all m); leaves = fetch_leaves conf sessions all m })
-        true correlation (message_at share_fetch_request at)
-    body_hosted ShareAcknowledge correlation at =
+        true correlation (message_at false share_fetch_request at)
+    body_hosted ShareAcknowledge version correlation at =
         message_hosted (acknowledge_begins conf sessions)
         (λ m. record { stage = subst (AsksHosted count) (sym (keeps_to_talk.acknowledge conf sessions m)) (ack_hosted conf.topics sessions all m); leaves = ack_leaves conf.topics sessions all m })
-        true correlation (message_at share_ack_request at)
-    body_hosted ShareGroupHeartbeat correlation at =
+        true correlation (message_at false share_ack_request at)
+    body_hosted ShareGroupHeartbeat version correlation at =
         message_hosted (heartbeat_begins conf sessions)
         (λ m. record { stage = subst (AsksHosted count) (sym (keeps_to_talk.heartbeat conf sessions m)) (tt, λ answer. tt); leaves = all })
-        true correlation (message_at heartbeat_request at)
-    body_hosted InitializeState correlation at =
+        true correlation (message_at false heartbeat_request at)
+    body_hosted InitializeState version correlation at =
         message_hosted (initialize_begins conf sessions)
         (λ m. record { stage = subst (AsksHosted count) (sym (keeps_to_talk.initialize conf sessions m)) (state_hosted InitializeCall initialize_means partition_result conf.topics (record {}) m); leaves = all })
-        true correlation (message_at initialize_share_group_state_request at)
-    body_hosted ReadState correlation at =
+        true correlation (message_at false initialize_share_group_state_request at)
+    body_hosted ReadState version correlation at =
         message_hosted (read_begins conf sessions)
         (λ m. record { stage = subst (AsksHosted count) (sym (keeps_to_talk.read conf sessions m)) (state_hosted ReadCall read_means read_partition_result conf.topics (record {}) m); leaves = all })
-        true correlation (message_at read_share_group_state_request at)
-    body_hosted WriteState correlation at =
+        true correlation (message_at false read_share_group_state_request at)
+    body_hosted WriteState version correlation at =
         message_hosted (write_begins conf sessions)
         (λ m. record { stage = subst (AsksHosted count) (sym (keeps_to_talk.write conf sessions m)) (state_hosted WriteCall write_means partition_result conf.topics (record {}) m); leaves = all })
-        true correlation (message_at write_share_group_state_request at)
-    body_hosted DeleteState correlation at =
+        true correlation (message_at false write_share_group_state_request at)
+    body_hosted DeleteState version correlation at =
         message_hosted (delete_begins conf sessions)
         (λ m. record { stage = subst (AsksHosted count) (sym (keeps_to_talk.delete conf sessions m)) (state_hosted DeleteCall delete_means partition_result conf.topics (record {}) m); leaves = all })
-        true correlation (message_at delete_share_group_state_request at)
+        true correlation (message_at false delete_share_group_state_request at)
 
-    head_hosted : (api : Api) (correlation : ℤ) (r : Result (Option (List ℕ) × At) WireFault) → VerdictHosted sessions (head_verdict conf sessions api correlation r)
-    head_hosted api correlation (Ok x) = body_hosted api correlation x.1
-    head_hosted api correlation (Err fault) = tt
+    head_hosted : (api : Api) (version : Version) (correlation : ℤ) (r : Result (Option (List ℕ) × At) WireFault) → VerdictHosted sessions (head_verdict conf sessions api version correlation r)
+    head_hosted api version correlation (Ok x) = body_hosted api version correlation x.1
+    head_hosted api version correlation (Err fault) = tt
 
     api_hosted : (key version correlation : ℤ) (at : At) (o : Option Api) → VerdictHosted sessions (api_verdict conf sessions key version correlation at o)
-    api_hosted key version correlation at (Some api) = head_hosted api correlation (head_rest.read at)
+    api_hosted key version correlation at (Some api) =
+        head_hosted api (version_at api version) correlation ((head_rest (version_at api version).flexible).read at)
     api_hosted key version correlation at None = tt
 
     call_hosted : (key version correlation : ℤ) (at : At) → VerdictHosted sessions (call_verdict conf sessions key version correlation at)
-    call_hosted key version correlation at = go (is_other_version key version)
+    call_hosted key version correlation at = go (is_other_version conf.versions key version)
       where
-        go : (b : Bool) → VerdictHosted sessions (if b then reply_verdict false correlation (api_versions_old_reply.bytes old_versions_answer)
-            else api_verdict conf sessions key version correlation at (api_at key version))
+        go : (b : Bool) → VerdictHosted sessions (if b then reply_verdict false correlation ((api_versions_reply version_0).format.bytes (other_versions_answer conf.versions))
+            else api_verdict conf sessions key version correlation at (api_at conf.versions key version))
         go true = record { stage = tt; leaves = all }
-        go false = api_hosted key version correlation at (api_at key version)
+        go false = api_hosted key version correlation at (api_at conf.versions key version)
 
     start_hosted : (r : Result ((ℤ × (ℤ × ℤ)) × At) WireFault) → VerdictHosted sessions (start_verdict conf sessions r)
     start_hosted (Ok x) = call_hosted x.0.0 x.0.1.0 x.0.1.1 x.1
@@ -164,7 +168,7 @@ module _ (conf : ConfigParts) where
 
   ended_at : (work : Work) (conn : ConnParts) → conn.work ≡ work → AreHostedIn conf conn → AreHostedIn conf (conn_after_end_at work conn)
   ended_at Free conn is h = record { sessions = All-nil (HasHosted count); releases = releases_below count conn.sessions h.sessions; work = tt }
-  ended_at (Busy correlation hand) conn is h = record { sessions = All-nil (HasHosted count); releases = releases_below count conn.sessions h.sessions; work = tt }
+  ended_at (Busy tags correlation hand) conn is h = record { sessions = All-nil (HasHosted count); releases = releases_below count conn.sessions h.sessions; work = tt }
   ended_at Overlong conn is h = record { sessions = All-nil (HasHosted count); releases = releases_below count conn.sessions h.sessions; work = tt }
   ended_at Closing conn is h = h
 
@@ -202,7 +206,7 @@ module _ (conf : ConfigParts) where
 
   work_hosted : (work : Work) (conn : ConnParts) → conn.work ≡ work → AreHostedIn conf conn → TurnHosted (work_turn conf conn work)
   work_hosted Free conn is h = front_hosted conn (front_of conn.unread) h
-  work_hosted (Busy correlation hand) conn is h =
+  work_hosted (Busy tags correlation hand) conn is h =
       let asked : AsksHosted count (hand_talk hand) = subst (IsHostedWork count) is h.work in
       record { next = asked.0; conn = h }
   work_hosted Overlong conn is h = closed LongReply conn h
@@ -218,17 +222,17 @@ module _ (conf : ConfigParts) where
   finished conn (Frame f) h = record { sessions = h.sessions; releases = h.releases; work = tt }
   finished conn FrameTooLong h = record { sessions = h.sessions; releases = h.releases; work = tt }
 
-  staged : (conn : ConnParts) (correlation : ℤ) (stage : Stage Hand) → AreHostedIn conf conn → AsksHosted count (stage_talk hand_talk stage) →
-      AreHostedIn conf (conn_at_stage conn correlation stage)
-  staged conn correlation (Asks hand) h a = record { sessions = h.sessions; releases = h.releases; work = a }
-  staged conn correlation (Says body) h a = finished conn (reply_frame true correlation body) h
+  staged : (conn : ConnParts) (tags : Bool) (correlation : ℤ) (stage : Stage Hand) → AreHostedIn conf conn → AsksHosted count (stage_talk hand_talk stage) →
+      AreHostedIn conf (conn_at_stage conn tags correlation stage)
+  staged conn tags correlation (Asks hand) h a = record { sessions = h.sessions; releases = h.releases; work = a }
+  staged conn tags correlation (Says body) h a = finished conn (reply_frame tags correlation body) h
 
   given_at : (work : Work) (answer : PartAnswer) (conn : ConnParts) → conn.work ≡ work → AreHostedIn conf conn →
       AreHostedIn conf (conn_after_answer_at work answer conn)
   given_at Free answer conn is h = h
-  given_at (Busy correlation hand) answer conn is h =
+  given_at (Busy tags correlation hand) answer conn is h =
       let asked : AsksHosted count (hand_talk hand) = subst (IsHostedWork count) is h.work in
-      staged conn correlation (hand_stage_after hand answer) h (subst (AsksHosted count) (sym (keeps_to_talk.goes hand answer)) (asked.1 answer))
+      staged conn tags correlation (hand_stage_after hand answer) h (subst (AsksHosted count) (sym (keeps_to_talk.goes hand answer)) (asked.1 answer))
   given_at Overlong answer conn is h = h
   given_at Closing answer conn is h = record { sessions = h.sessions; releases = All-drop (StepBelow count) 1 conn.releases h.releases; work = h.work }
 
@@ -236,7 +240,7 @@ module _ (conf : ConfigParts) where
 
   fed_at : (work : Work) (piece : List ℕ) (conn : ConnParts) → AreHostedIn conf conn → AreHostedIn conf (conn_after_bytes_at work piece conn)
   fed_at Free piece conn h = record { sessions = h.sessions; releases = h.releases; work = h.work }
-  fed_at (Busy correlation hand) piece conn h = record { sessions = h.sessions; releases = h.releases; work = h.work }
+  fed_at (Busy tags correlation hand) piece conn h = record { sessions = h.sessions; releases = h.releases; work = h.work }
   fed_at Overlong piece conn h = record { sessions = h.sessions; releases = h.releases; work = h.work }
   fed_at Closing piece conn h = h
 

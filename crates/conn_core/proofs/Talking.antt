@@ -55,7 +55,7 @@ goes_alone (Delete a) answer =
 
 pub keeps_to_talk : KeepsToItsTalk
 keeps_to_talk = record {
-  produce = λ conf sessions m. named (talk_of produce_acts) (λ b. Produce b) (produce_stage conf.topics m) (λ b. refl);
+  produce = λ version conf sessions m. named (talk_of produce_acts) (λ b. Produce b) (produce_stage version conf.topics m) (λ b. refl);
   delete_records = λ conf sessions m. named (talk_of delete_acts) (λ b. DeleteRecords b) (delete_stage conf.topics m) (λ b. refl);
   fetch = λ conf sessions m. named (talk_of fetch_acts) (λ b. Fetch b) (begun_fetch conf sessions m).stage (λ b. refl);
   acknowledge = λ conf sessions m. named (talk_of ack_acts) (λ b. Acknowledge b) (begun_ack conf.topics sessions m).stage (λ b. refl);

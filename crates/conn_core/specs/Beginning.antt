@@ -3,6 +3,7 @@
 -- For example ApiVersions has its reply at once, a Read of a partition that isn't hosted a part (row_tests, `a share group's state
 -- is initialized and read`), and so has a Produce of a batch for one that is (`a batch is stored`).
 use Rattle.std.specs.Prelude.{List, Some, None}
+use Rattle.flex_fields.specs.declared.version.Version.{Version}
 use Rattle.topic_conf.specs.Configs.{ConfigParts}
 use Rattle.msgs_base.specs.declared.metadata_request.MetadataRequest.{MetadataRequest}
 use Rattle.msgs_base.specs.declared.find_coordinator_request.FindCoordinatorRequest.{FindCoordinatorRequest}
@@ -43,7 +44,7 @@ use Rattle.conn_core.specs.Metadata.{metadata_answer}
 use Rattle.conn_core.specs.Coordinators.{coordinator_answer}
 use Rattle.conn_core.specs.Hands.{hand_stage}
 
--- A is the request's message
+-- A is the request's message. Where a call has several versions, its reply has the version of its request.
 abbrev pub Begins : Type 0 → Type 0
 Begins A = ConfigParts → List SessionParts → A → Begun
 
@@ -51,17 +52,17 @@ Begins A = ConfigParts → List SessionParts → A → Begun
 abbrev pub begun_at : Stage Hand → Begun
 begun_at stage = record { stage = stage; change = None }
 
-abbrev pub metadata_begins : Begins MetadataRequest
-metadata_begins conf sessions m = begun_at (Says (Some (metadata_reply.bytes (metadata_answer conf m))))
+abbrev pub metadata_begins : Version → Begins MetadataRequest
+metadata_begins version conf sessions m = begun_at (Says (Some ((metadata_reply version).format.bytes (metadata_answer version conf m))))
 
 abbrev pub coordinator_begins : Begins FindCoordinatorRequest
 coordinator_begins conf sessions m = begun_at (Says (Some (find_coordinator_reply.bytes (coordinator_answer conf m))))
 
-abbrev pub versions_begins : Begins ApiVersionsRequest
-versions_begins conf sessions m = begun_at (Says (Some (api_versions_reply.bytes versions_answer)))
+abbrev pub versions_begins : Version → Begins ApiVersionsRequest
+versions_begins version conf sessions m = begun_at (Says (Some ((api_versions_reply version).format.bytes (versions_answer conf.versions))))
 
-abbrev pub produce_begins : Begins ProduceRequest
-produce_begins conf sessions m = begun_at (hand_stage (λ a. Produce a) (produce_stage conf.topics m))
+abbrev pub produce_begins : Version → Begins ProduceRequest
+produce_begins version conf sessions m = begun_at (hand_stage (λ a. Produce a) (produce_stage version conf.topics m))
 
 abbrev pub delete_records_begins : Begins DeleteRecordsRequest
 delete_records_begins conf sessions m = begun_at (hand_stage (λ a. DeleteRecords a) (delete_stage conf.topics m))

@@ -34,7 +34,7 @@ AsksHosted count (asks part go) = IsHostedPart count part × ((answer : PartAnsw
 
 abbrev pub IsHostedWork : ℕ → Work → Type 0
 IsHostedWork count Free = Unit {0}
-IsHostedWork count (Busy correlation hand) = AsksHosted count (hand_talk hand)
+IsHostedWork count (Busy tags correlation hand) = AsksHosted count (hand_talk hand)
 IsHostedWork count Overlong = Unit {0}
 IsHostedWork count Closing = Unit {0}
 

@@ -11,13 +11,13 @@ use Rattle.conn_core.specs.Conns.{ConnParts}
 
 abbrev pub sessions_at : Work → List SessionParts → List SessionParts
 sessions_at Free kept = kept
-sessions_at (Busy correlation hand) kept = kept
+sessions_at (Busy tags correlation hand) kept = kept
 sessions_at Overlong kept = kept
 sessions_at Closing kept = []
 
 abbrev pub releases_at : Work → List SessionParts → List PlanStep
 releases_at Free kept = []
-releases_at (Busy correlation hand) kept = []
+releases_at (Busy tags correlation hand) kept = []
 releases_at Overlong kept = []
 releases_at Closing kept = releases_of kept
 

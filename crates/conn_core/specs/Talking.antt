@@ -2,6 +2,7 @@
 -- For example a Read in hand asks the part of its question and goes on by the answer (row_tests, `a share group's state is
 -- initialized and read`), and so does a Produce (`a batch is stored`).
 use Rattle.std.specs.Prelude.{◌≡◌, List}
+use Rattle.flex_fields.specs.declared.version.Version.{Version}
 use Rattle.topic_conf.specs.Configs.{ConfigParts}
 use Rattle.msgs_base.specs.declared.delete_records_request.DeleteRecordsRequest.{DeleteRecordsRequest}
 use Rattle.msgs_base.specs.declared.produce_request.ProduceRequest.{ProduceRequest}
@@ -58,8 +59,8 @@ hand_talk hand = asks (hand_part hand) (hand_talk_after hand)
 
 -- Under its name each call begins with the talk of its request, and keeps to it by each answer.
 pub record KeepsToItsTalk : Type 0 where
-  pub produce : (conf : ConfigParts) (sessions : List SessionParts) (m : ProduceRequest) →
-      stage_talk hand_talk (produce_begins conf sessions m).stage ≡ produce_talk conf.topics m
+  pub produce : (version : Version) (conf : ConfigParts) (sessions : List SessionParts) (m : ProduceRequest) →
+      stage_talk hand_talk (produce_begins version conf sessions m).stage ≡ produce_talk version conf.topics m
   pub delete_records : (conf : ConfigParts) (sessions : List SessionParts) (m : DeleteRecordsRequest) →
       stage_talk hand_talk (delete_records_begins conf sessions m).stage ≡ delete_talk conf.topics m
   pub fetch : (conf : ConfigParts) (sessions : List SessionParts) (m : ShareFetchRequest) →

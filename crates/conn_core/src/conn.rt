@@ -234,18 +234,23 @@ impl Conn {
         &mut self,
         size: u32,
         change: Option<Kept<SessionChange>>,
+        tags: bool,
         correlation: i32,
         hand: Hand,
     ) -> Result<Next, NoMemory>
         requires whole { 4 + size ≤ length self.old.unread }
         requires idle { self.old.work ≡ Work.Free }
         requires fits { Fits change self.old.sessions }
-        ensures next { IfOk result (λ next. Tells (request_turn (taken_up (behind_frame size self.old.unread) change self.old) correlation hand) next self.new) }
+        ensures next { IfOk result (λ next. Tells (request_turn (taken_up (behind_frame size self.old.unread) change self.old) tags correlation hand) next self.new) }
         ensures kept { OnErr result (self.new ≡ self.old) }
     {
         match self.first_part(size, change, &hand) {
             Ok(first) => {
-                self.work.set(Work::Busy { correlation, hand });
+                self.work.set(Work::Busy {
+                    tags,
+                    correlation,
+                    hand,
+                });
                 Ok(Next::Ask(first))
             }
             Err(NoMemory) => {
@@ -279,7 +284,7 @@ impl Conn {
                             Err(NoMemory)
                         }
                     },
-                    Stage::Asks(hand) => self.begin(size, change, correlation, hand),
+                    Stage::Asks(hand) => self.begin(size, change, tags, correlation, hand),
                 }
             }
         }
@@ -346,18 +351,22 @@ impl Conn {
     }
 
     // The request in hand is at this stage.
-    fn settle(&mut self, correlation: i32, stage: Stage<Hand>) -> Result<(), NoMemory>
+    fn settle(&mut self, tags: bool, correlation: i32, stage: Stage<Hand>) -> Result<(), NoMemory>
         requires idle { self.old.work ≡ Work.Free }
-        ensures ok { OnOk result (self.new ≡ conn_at_stage self.old correlation stage) }
+        ensures ok { OnOk result (self.new ≡ conn_at_stage self.old tags correlation stage) }
         ensures err { OnErr result (self.new ≡ self.old) }
     {
         match stage {
             Stage::Asks(hand) => {
-                self.work.set(Work::Busy { correlation, hand });
+                self.work.set(Work::Busy {
+                    tags,
+                    correlation,
+                    hand,
+                });
                 Ok(())
             }
             Stage::Says(body) => {
-                let reply = frame_reply(self.alloc, true, correlation, body)?;
+                let reply = frame_reply(self.alloc, tags, correlation, body)?;
                 self.finish(reply)
             }
         }
@@ -369,9 +378,13 @@ impl Conn {
         ensures err { OnErr result (conn_after_end self.new ≡ conn_after_end self.old) }
     {
         match mem::replace(&mut self.work, Work::Free) {
-            Work::Busy { correlation, hand } => {
+            Work::Busy {
+                tags,
+                correlation,
+                hand,
+            } => {
                 let stage = hand.answer(self.alloc, answer)?;
-                self.settle(correlation, stage)
+                self.settle(tags, correlation, stage)
             }
             other => {
                 drop(answer);

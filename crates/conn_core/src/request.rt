@@ -12,12 +12,13 @@ use crate::coordinators::coordinator_body;
 use crate::hand::{Hand, under_name};
 use crate::kept::Kept;
 use crate::metadata::metadata_reply;
-use crate::versions::versions_reply;
+use crate::versions::versions_body;
 use call_fold::Stage;
+use flex_fields::Version;
 use log_calls::{delete_call, produce_call};
 use msgs_base::{
     ApiVersionsRequest, DeleteRecordsRequest, FindCoordinatorRequest, MetadataRequest,
-    ProduceRequest, write_api_versions_reply, write_metadata_reply,
+    ProduceRequest, write_metadata_reply,
 };
 use msgs_group::HeartbeatRequest;
 use msgs_share::{ShareAckRequest, ShareFetchRequest};
@@ -34,12 +35,20 @@ use topic_conf::Config;
 
 /// A message that asks for a served call.
 pub trait Request: Sized + Drop {
-    /// With what the call begins, by the share sessions of its connection.
-    ghost begins: { Begins Self };
+    ghost use Rattle.flex_fields.specs.declared.version.Version.{Version as VersionParts};
+
+    /// With what the call begins in a version of it, by the share sessions of its connection.
+    ghost begins: { VersionParts → Begins Self };
 
     /// It begins. The sessions aren't changed yet; the connection has room for the change.
-    fn begin(self, alloc: Global, conf: &Config, sessions: &Sessions) -> Result<Begun, NoMemory>
-        ensures begun { IfOk result (λ begun. begun ≡ begins conf.now sessions.now self) }
+    fn begin(
+        self,
+        alloc: Global,
+        version: Version,
+        conf: &Config,
+        sessions: &Sessions,
+    ) -> Result<Begun, NoMemory>
+        ensures begun { IfOk result (λ begun. begun ≡ begins version conf.now sessions.now self) }
         ensures fits { IfOk result (λ begun. Fits begun.change sessions.now) };
 }
 
@@ -98,20 +107,32 @@ macro_rules! replied {
 impl Request for MetadataRequest {
     ghost begins = { metadata_begins };
 
-    fn begin(self, alloc: Global, conf: &Config, _: &Sessions) -> Result<Begun, NoMemory> {
-        let reply = metadata_reply(alloc, conf, &self);
+    fn begin(
+        self,
+        alloc: Global,
+        version: Version,
+        conf: &Config,
+        _: &Sessions,
+    ) -> Result<Begun, NoMemory> {
+        let reply = metadata_reply(alloc, version, conf, &self);
         drop(self);
         let reply = reply?;
-        let body = write_metadata_reply(alloc, &reply);
+        let body = write_metadata_reply(alloc, version, &reply);
         drop(reply);
         replied!(body?)
     }
 }
 
 impl Request for FindCoordinatorRequest {
-    ghost begins = { coordinator_begins };
+    ghost begins = { λ _. coordinator_begins };
 
-    fn begin(self, alloc: Global, conf: &Config, _: &Sessions) -> Result<Begun, NoMemory> {
+    fn begin(
+        self,
+        alloc: Global,
+        _: Version,
+        conf: &Config,
+        _: &Sessions,
+    ) -> Result<Begun, NoMemory> {
         let body = coordinator_body(alloc, conf, &self)?;
         replied!(body)
     }
@@ -120,9 +141,14 @@ impl Request for FindCoordinatorRequest {
 impl Request for ApiVersionsRequest {
     ghost begins = { versions_begins };
 
-    fn begin(self, alloc: Global, _: &Config, _: &Sessions) -> Result<Begun, NoMemory> {
-        let reply = versions_reply(alloc)?;
-        let body = write_api_versions_reply(alloc, &reply)?;
+    fn begin(
+        self,
+        alloc: Global,
+        version: Version,
+        conf: &Config,
+        _: &Sessions,
+    ) -> Result<Begun, NoMemory> {
+        let body = versions_body(alloc, version, conf.versions())?;
         replied!(body)
     }
 }
@@ -130,25 +156,43 @@ impl Request for ApiVersionsRequest {
 impl Request for ProduceRequest {
     ghost begins = { produce_begins };
 
-    fn begin(self, alloc: Global, conf: &Config, _: &Sessions) -> Result<Begun, NoMemory> {
-        let stage = produce_call(alloc, conf, self)?;
+    fn begin(
+        self,
+        alloc: Global,
+        version: Version,
+        conf: &Config,
+        _: &Sessions,
+    ) -> Result<Begun, NoMemory> {
+        let stage = produce_call(alloc, version, conf, self)?;
         begun!(alloc, stage)
     }
 }
 
 impl Request for DeleteRecordsRequest {
-    ghost begins = { delete_records_begins };
+    ghost begins = { λ _. delete_records_begins };
 
-    fn begin(self, alloc: Global, conf: &Config, _: &Sessions) -> Result<Begun, NoMemory> {
+    fn begin(
+        self,
+        alloc: Global,
+        _: Version,
+        conf: &Config,
+        _: &Sessions,
+    ) -> Result<Begun, NoMemory> {
         let stage = delete_call(alloc, conf, self)?;
         begun!(alloc, stage)
     }
 }
 
 impl Request for ShareFetchRequest {
-    ghost begins = { fetch_begins };
+    ghost begins = { λ _. fetch_begins };
 
-    fn begin(self, alloc: Global, conf: &Config, sessions: &Sessions) -> Result<Begun, NoMemory> {
+    fn begin(
+        self,
+        alloc: Global,
+        _: Version,
+        conf: &Config,
+        sessions: &Sessions,
+    ) -> Result<Begun, NoMemory> {
         let begun = fetch_call(alloc, conf, sessions, &self);
         drop(self);
         let (stage, change) = begun?;
@@ -157,9 +201,15 @@ impl Request for ShareFetchRequest {
 }
 
 impl Request for ShareAckRequest {
-    ghost begins = { acknowledge_begins };
+    ghost begins = { λ _. acknowledge_begins };
 
-    fn begin(self, alloc: Global, conf: &Config, sessions: &Sessions) -> Result<Begun, NoMemory> {
+    fn begin(
+        self,
+        alloc: Global,
+        _: Version,
+        conf: &Config,
+        sessions: &Sessions,
+    ) -> Result<Begun, NoMemory> {
         let begun = ack_call(alloc, conf, sessions, &self);
         drop(self);
         let (stage, change) = begun?;
@@ -168,45 +218,69 @@ impl Request for ShareAckRequest {
 }
 
 impl Request for HeartbeatRequest {
-    ghost begins = { heartbeat_begins };
+    ghost begins = { λ _. heartbeat_begins };
 
-    fn begin(self, alloc: Global, _: &Config, _: &Sessions) -> Result<Begun, NoMemory> {
+    fn begin(self, alloc: Global, _: Version, _: &Config, _: &Sessions) -> Result<Begun, NoMemory> {
         let stage = heartbeat_call(alloc, self)?;
         begun!(alloc, stage)
     }
 }
 
 impl Request for InitializeShareGroupStateRequest {
-    ghost begins = { initialize_begins };
+    ghost begins = { λ _. initialize_begins };
 
-    fn begin(self, alloc: Global, conf: &Config, _: &Sessions) -> Result<Begun, NoMemory> {
+    fn begin(
+        self,
+        alloc: Global,
+        _: Version,
+        conf: &Config,
+        _: &Sessions,
+    ) -> Result<Begun, NoMemory> {
         let stage = state_call(alloc, conf, Initialize, self)?;
         begun!(alloc, stage)
     }
 }
 
 impl Request for ReadShareGroupStateRequest {
-    ghost begins = { read_begins };
+    ghost begins = { λ _. read_begins };
 
-    fn begin(self, alloc: Global, conf: &Config, _: &Sessions) -> Result<Begun, NoMemory> {
+    fn begin(
+        self,
+        alloc: Global,
+        _: Version,
+        conf: &Config,
+        _: &Sessions,
+    ) -> Result<Begun, NoMemory> {
         let stage = state_call(alloc, conf, Read, self)?;
         begun!(alloc, stage)
     }
 }
 
 impl Request for WriteShareGroupStateRequest {
-    ghost begins = { write_begins };
+    ghost begins = { λ _. write_begins };
 
-    fn begin(self, alloc: Global, conf: &Config, _: &Sessions) -> Result<Begun, NoMemory> {
+    fn begin(
+        self,
+        alloc: Global,
+        _: Version,
+        conf: &Config,
+        _: &Sessions,
+    ) -> Result<Begun, NoMemory> {
         let stage = state_call(alloc, conf, Write, self)?;
         begun!(alloc, stage)
     }
 }
 
 impl Request for DeleteShareGroupStateRequest {
-    ghost begins = { delete_begins };
+    ghost begins = { λ _. delete_begins };
 
-    fn begin(self, alloc: Global, conf: &Config, _: &Sessions) -> Result<Begun, NoMemory> {
+    fn begin(
+        self,
+        alloc: Global,
+        _: Version,
+        conf: &Config,
+        _: &Sessions,
+    ) -> Result<Begun, NoMemory> {
         let stage = state_call(alloc, conf, Delete, self)?;
         begun!(alloc, stage)
     }

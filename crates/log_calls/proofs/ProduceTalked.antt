@@ -1,6 +1,7 @@
 -- Each partition is told by its own log.
 use Rattle.std.proofs.Common.{◌≡◌, ◌∙◌, ℕ, ℤ, suc, List, [], ◌∷◌, ◌++◌, Option, Some, length, drop, map, refl, ap}
 use Rattle.std.specs.List.{flat_map}
+use Rattle.flex_fields.specs.declared.version.Version.{Version}
 use Rattle.share_model.specs.declared.fault.Code.{Code}
 use Rattle.topic_conf.specs.declared.topic.Topic.{Topic}
 use Rattle.msgs_base.specs.declared.produce_request.ProducePartition.{ProducePartition}
@@ -80,28 +81,28 @@ module _ (topics : List Topic) (refusal : Option Code) (hand : ProduceHand) wher
       ∙ ap (λ l. own_topic topics refusal t ∷ rows_by_topic shape l) (left_over own first t.partitions rest)
       ∙ ap (λ l. own_topic topics refusal t ∷ l) (under_topics told)
 
-of_request : (topics : List Topic) (request : ProduceRequest) →
-    produce_talk topics request
-    ≡ talk produce_acts (hand_of request) (flat_map (topic_entries topics (request_refusal request.acks request.transactional_id)) request.topic_data) []
-of_request topics request =
-    (means_entries produce_acts).begins (hand_of request) (flat_map (topic_entries topics (request_refusal request.acks request.transactional_id)) request.topic_data)
+of_request : (version : Version) (topics : List Topic) (request : ProduceRequest) →
+    produce_talk version topics request
+    ≡ talk produce_acts (hand_of version request) (flat_map (topic_entries topics (request_refusal request.acks request.transactional_id)) request.topic_data) []
+of_request version topics request =
+    (means_entries produce_acts).begins (hand_of version request) (flat_map (topic_entries topics (request_refusal request.acks request.transactional_id)) request.topic_data)
 
 pub tells_by_log : TellsByItsLog
 tells_by_log = record {
-  asks = λ topics request answers.
+  asks = λ version topics request answers.
       let refusal = request_refusal request.acks request.transactional_id in
-      let hand = hand_of request in
-      ap (λ t. talk_parts t answers) (of_request topics request)
+      let hand = hand_of version request in
+      ap (λ t. talk_parts t answers) (of_request version topics request)
       ∙ groups_ask produce_acts hand (λ (t : ProduceTopic). t.partition_data) (λ t. entry topics refusal hand t.name) (λ question answer. refl)
       (λ t p. parts_by (fate_of topics refusal t.name p)) (has_parts topics refusal hand) request.topic_data answers;
-  says_own = λ topics transaction acks timeout told.
+  says_own = λ version topics transaction acks timeout told.
       let refusal = request_refusal acks transaction in
       let request = request_of transaction acks timeout told in
-      let hand = hand_of request in
+      let hand = hand_of version request in
       let ans = flat_map (answers_in topics refusal) told in
-      ap (λ t. talk_reply t ans) (of_request topics request)
+      ap (λ t. talk_reply t ans) (of_request version topics request)
       ∙ ap (λ es. talk_reply (talk produce_acts hand es []) ans) (entries_told topics refusal hand told)
       ∙ groups_say produce_acts hand (λ (t : TopicBeside). t.partitions) (λ t x. entry topics refusal hand t.name x.0)
       (answers_one topics refusal hand) (row_one topics refusal hand) (makes_row topics refusal hand) (λ question answer. refl) told
-      ∙ ap (λ l. Some (reply_of (wants_reply acks) l)) (under_topics topics refusal hand told);
+      ∙ ap (λ l. Some (reply_of version (wants_reply acks) l)) (under_topics topics refusal hand told);
 }

@@ -1,8 +1,9 @@
--- Produce in hand (ProduceRequest.json and ProduceResponse.json of version 9): a batch for the log of each hosted partition, and a reply
+-- Produce in hand (ProduceRequest.json and ProduceResponse.json): a batch for the log of each hosted partition, and a reply
 -- with the topics and partitions of the request.
 -- For example null records for a hosted partition have code 87 at once, and other bytes are asked of the partition's log (row_tests,
 -- `five partitions, each of which fails for another reason`).
 use Rattle.std.specs.Prelude.{ℕ, ℤ, pos, negsuc, Bool, Option, Some, None, List, [], ◌∷◌, map, flat_map, length, take, drop, slice_get, if◌then◌else◌}
+use Rattle.flex_fields.specs.declared.version.Version.{Version}
 use Rattle.share_model.specs.declared.delete.Placed.{Placed}
 use Rattle.share_model.specs.declared.fault.Code.{Code}
 use Rattle.share_model.specs.ErrorCodes.{NONE, UNKNOWN_TOPIC_OR_PARTITION, INVALID_RECORD, KAFKA_STORAGE_ERROR}
@@ -109,8 +110,10 @@ abbrev pub rows_by_topic : List NamedShapeParts → List ProducePartitionReply �
 rows_by_topic [] rows = []
 rows_by_topic (one ∷ shape) rows = record { name = one.name; partition_responses = take one.count rows } ∷ rows_by_topic shape (drop one.count rows)
 
-abbrev pub reply_of : Bool → List ProduceTopicReply → Option (List ℕ)
-reply_of replies responses = if replies then Some (produce_reply.bytes (record { responses = responses; throttle_time_ms = pos 0 })) else None
+-- in the version of the request
+abbrev pub reply_of : Version → Bool → List ProduceTopicReply → Option (List ℕ)
+reply_of version replies responses =
+    if replies then Some ((produce_reply version).format.bytes (record { responses = responses; throttle_time_ms = pos 0 })) else None
 
 -- each row is made of its own question and of what its log says
 abbrev pub produce_acts : Acts ProduceHand Offer ProducePartitionReply
@@ -118,13 +121,13 @@ produce_acts = record {
   part = λ hand q. PartProduce q.shard q.batch;
   row = λ hand q answer. log_row q.index (log_answer answer);
   next = λ hand q answer. hand;
-  body = λ hand rows. reply_of hand.replies (rows_by_topic hand.shape rows);
+  body = λ hand rows. reply_of hand.version hand.replies (rows_by_topic hand.shape rows);
 }
 
-abbrev pub hand_of : ProduceRequest → ProduceHand
-hand_of request = record { replies = wants_reply request.acks; shape = map shape_of request.topic_data }
+abbrev pub hand_of : Version → ProduceRequest → ProduceHand
+hand_of version request = record { version = version; replies = wants_reply request.acks; shape = map shape_of request.topic_data }
 
--- a request begins
-abbrev pub produce_stage : List Topic → ProduceRequest → Stage (AskingParts ProduceHand Offer ProducePartitionReply)
-produce_stage topics request =
-    stage_of produce_acts (hand_of request) (flat_map (topic_entries topics (request_refusal request.acks request.transactional_id)) request.topic_data) []
+-- a request of this version begins
+abbrev pub produce_stage : Version → List Topic → ProduceRequest → Stage (AskingParts ProduceHand Offer ProducePartitionReply)
+produce_stage version topics request =
+    stage_of produce_acts (hand_of version request) (flat_map (topic_entries topics (request_refusal request.acks request.transactional_id)) request.topic_data) []

@@ -4,6 +4,7 @@
 -- For example a batch for partition 0, null records and a batch for partition 1 ask 0 and 1, and have the first answer, 87 and the second
 -- (row_tests, `each answer stands at its own partition, with known codes between them`).
 use Rattle.std.specs.Prelude.{◌≡◌, ℕ, ℤ, suc, Option, Some, List, [], ◌∷◌, map, flat_map, take, length}
+use Rattle.flex_fields.specs.declared.version.Version.{Version}
 use Rattle.share_model.specs.declared.fault.Code.{Code}
 use Rattle.topic_conf.specs.declared.topic.Topic.{Topic}
 use Rattle.msgs_base.specs.declared.produce_request.ProducePartition.{ProducePartition}
@@ -64,8 +65,8 @@ own_topic topics refusal t = record {
 -- ---- the law
 
 -- what the request asks and says as it is done
-abbrev pub produce_talk : List Topic → ProduceRequest → Talk
-produce_talk topics request = stage_talk (talk_of produce_acts) (produce_stage topics request)
+abbrev pub produce_talk : Version → List Topic → ProduceRequest → Talk
+produce_talk version topics request = stage_talk (talk_of produce_acts) (produce_stage version topics request)
 
 abbrev pub request_of : Option (List ℕ) → ℤ → ℤ → List TopicBeside → ProduceRequest
 request_of transaction acks timeout told = record {
@@ -77,9 +78,9 @@ request_of transaction acks timeout told = record {
 
 pub record TellsByItsLog : Type 0 where
   -- the parts are those of the partitions, each asked once the answers to those before it have come
-  pub asks : (topics : List Topic) (request : ProduceRequest) (answers : List PartAnswer) →
-      talk_parts (produce_talk topics request) answers ≡ take (suc (length answers)) (parts_of topics request)
+  pub asks : (version : Version) (topics : List Topic) (request : ProduceRequest) (answers : List PartAnswer) →
+      talk_parts (produce_talk version topics request) answers ≡ take (suc (length answers)) (parts_of topics request)
   -- once all answers have come, the reply tells each partition by its own, or there is none
-  pub says_own : (topics : List Topic) (transaction : Option (List ℕ)) (acks timeout : ℤ) (told : List TopicBeside) →
-      talk_reply (produce_talk topics (request_of transaction acks timeout told)) (flat_map (answers_in topics (request_refusal acks transaction)) told)
-      ≡ Some (reply_of (wants_reply acks) (map (own_topic topics (request_refusal acks transaction)) told))
+  pub says_own : (version : Version) (topics : List Topic) (transaction : Option (List ℕ)) (acks timeout : ℤ) (told : List TopicBeside) →
+      talk_reply (produce_talk version topics (request_of transaction acks timeout told)) (flat_map (answers_in topics (request_refusal acks transaction)) told)
+      ≡ Some (reply_of version (wants_reply acks) (map (own_topic topics (request_refusal acks transaction)) told))

@@ -7,16 +7,17 @@ use crate::plan::{Offer, Plan, plan_topics};
 use crate::reply::{log_row, produce_body};
 use crate::shape::NamedShape;
 use call_fold::{Asking, Call, Part, PartAnswer, Stage, go_on};
-use flex_fields::{Bytes, Items};
+use flex_fields::{Bytes, Items, Version};
 use msgs_base::{ProducePartitionReply, ProduceRequest};
 use share_model::{Blob, NoMemory};
 use std::alloc::Global;
 use std::collections::VecDeque;
 use topic_conf::Config;
 
-/// What a Produce keeps from entry to entry: whether a reply is wanted, and the form of its request.
+/// What a Produce keeps from entry to entry: its version, whether a reply is wanted, and the form of its request.
 #[derive(Drop)]
 pub struct ProduceHand {
+    version: Version,
     replies: bool,
     shape: Items<NamedShape>,
 }
@@ -57,19 +58,20 @@ impl Call for ProduceHand {
         alloc: Global,
         rows: VecDeque<ProducePartitionReply>,
     ) -> Result<Option<Bytes>, NoMemory>
-        ensures { IfOk result (λ body. body ≡ reply_of self.replies (rows_by_topic self.shape rows.items)) }
+        ensures { IfOk result (λ body. body ≡ reply_of self.version self.replies (rows_by_topic self.shape rows.items)) }
     {
-        produce_body(alloc, self.replies, self.shape, rows)
+        produce_body(alloc, self.version, self.replies, self.shape, rows)
     }
 }
 
-/// A Produce begins.
+/// A Produce of this version begins.
 pub fn produce_call(
     alloc: Global,
+    version: Version,
     conf: &Config,
     request: ProduceRequest,
 ) -> Result<Stage<Asking<ProduceHand, Offer, ProducePartitionReply>>, NoMemory>
-    ensures { IfOk result (λ stage. stage ≡ produce_stage conf.now.topics request) }
+    ensures { IfOk result (λ stage. stage ≡ produce_stage version conf.now.topics request) }
 {
     let ProduceRequest {
         transactional_id,
@@ -80,6 +82,7 @@ pub fn produce_call(
     let refusal = request_refusal(acks, &transactional_id);
     let Plan { shape, left } = plan_topics(alloc, conf, refusal, topic_data)?;
     let hand = ProduceHand {
+        version,
         replies: wants_reply(acks),
         shape,
     };

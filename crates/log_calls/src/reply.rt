@@ -6,7 +6,7 @@ ghost use Rattle.log_calls.specs.Produce.{code_row, base_row, log_row, rows_by_t
 use crate::codes::batch_code;
 use crate::shape::NamedShape;
 use call_fold::{Produced, next_rows};
-use flex_fields::{Bytes, Items};
+use flex_fields::{Bytes, Items, Version};
 use msgs_base::{ProducePartitionReply, ProduceReply, ProduceTopicReply, write_produce_reply};
 use share_model::{Code, NoMemory, Placed};
 use std::alloc::Global;
@@ -89,14 +89,15 @@ fn group_rows(
     Ok(Items::new(topics))
 }
 
-/// The body of the reply with these rows, where one is wanted.
+/// The body of the reply with these rows in this version, where one is wanted.
 pub fn produce_body(
     alloc: Global,
+    version: Version,
     replies: bool,
     shape: Items<NamedShape>,
     rows: VecDeque<ProducePartitionReply>,
 ) -> Result<Option<Bytes>, NoMemory>
-    ensures { IfOk result (λ body. body ≡ reply_of replies (rows_by_topic shape rows.items)) }
+    ensures { IfOk result (λ body. body ≡ reply_of version replies (rows_by_topic shape rows.items)) }
 {
     if !replies {
         return Ok(None);
@@ -105,6 +106,6 @@ pub fn produce_body(
         responses: group_rows(alloc, shape, rows)?,
         throttle_time_ms: 0,
     };
-    let body = write_produce_reply(alloc, &reply)?;
+    let body = write_produce_reply(alloc, version, &reply)?;
     Ok(Some(body))
 }

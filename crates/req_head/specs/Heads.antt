@@ -1,6 +1,7 @@
--- The headers of requests and replies: request header version 2 and response header versions 1 and 0 (KIP-482,
+-- The headers of requests and replies: request header versions 2 and 1, and response header versions 1 and 0 (KIP-482,
 -- RequestHeader.json and ResponseHeader.json).
--- For example `0053 0000 00000001 ffff 00` is the header of key 83, version 0 and correlation id 1.
+-- For example `0053 0000 00000001 ffff 00` is the header of key 83, version 0 and correlation id 1; of header version 1 it is
+-- `0053 0000 00000001 ffff`.
 use Rattle.std.specs.Prelude.{ℕ, ℤ, Bool, true, false, List, Option, refl}
 use Rattle.flex_fields.specs.Formats.{Format, Shape, structure, ◌▹◌, int16, int32}
 use Rattle.req_head.specs.Client.{IsClient, client_at, client_bytes}
@@ -25,8 +26,16 @@ head_shape = record {
   there = λ _. refl;
 }
 
+abbrev pub head_fields : Format (ℤ × (ℤ × (ℤ × Option (List ℕ))))
+head_fields = int16 ▹ int16 ▹ int32 ▹ client_id
+
 unfoldable pub request_head : Format HeadParts
-request_head = structure head_shape (int16 ▹ int16 ▹ int32 ▹ client_id)
+request_head = structure head_shape head_fields
+
+-- the bytes are such a header, of version 2 where `tags` is true and else of version 1, which has the same fields and no tags
+abbrev pub IsHead : Bool → List ℕ → HeadParts → Type 0
+IsHead true bytes head = request_head.is bytes head
+IsHead false bytes head = head_fields.is bytes (head_shape.parts head)
 
 abbrev pub number_alone : Shape ℤ ℤ
 number_alone = record { make = λ x. x; parts = λ x. x; back = λ _. refl; there = λ _. refl }

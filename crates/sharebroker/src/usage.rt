@@ -95,7 +95,7 @@ const VERSIONS: Word = Word {
     option: Some("versions"),
     value: "exact|wide|all",
     given: Given::Default("exact"),
-    help: "Which versions of the calls are served; so far each word means the exact ones",
+    help: "Which versions of the calls are served: wide and all also those that stock producers speak",
 };
 
 const IDLE_MS: Word = Word {
