@@ -17,7 +17,7 @@ func main() {
 		Addr:         kafka.TCP(os.Args[1]),
 		Topic:        os.Args[2],
 		RequiredAcks: kafka.RequireAll,
-		MaxAttempts:  60,
+		MaxAttempts:  100000,
 		BatchTimeout: 10 * time.Millisecond,
 		Async:        true,
 		Completion: func(lost []kafka.Message, err error) {
