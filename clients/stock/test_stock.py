@@ -4,6 +4,7 @@ A thousand records are stored, and read by the client in Python: each once, or a
 amid them and started two seconds later. SHAREBROKER names another program than the one in crates/sharebroker/out.
 """
 
+import fcntl
 import glob
 import os
 import shutil
@@ -11,6 +12,7 @@ import socket
 import subprocess
 import sys
 import tempfile
+import termios
 import time
 import unittest
 
@@ -83,7 +85,8 @@ class Program:
     """A producer that stores the lines of its standard input, and ends with status 0 where all are stored."""
 
     def __init__(self, test, *words):
-        self._process = subprocess.Popen([*words, test.broker.servers, "jobs"], stdin=subprocess.PIPE, stderr=test.errors)
+        self._process = subprocess.Popen([*words, test.broker.servers, "jobs"], stdin=subprocess.PIPE,
+                                         stderr=test.errors)
         test.addCleanup(self._process.wait)
         test.addCleanup(self._process.kill)
         test.addCleanup(self._process.stdin.close)
@@ -116,8 +119,9 @@ class Daemon:
     def feed(self, values):
         for value in values:
             self._socket.send(b"<13>Dec 17 10:00:00 resize: picture " + value.split()[-1])
+        within(lambda: fcntl.ioctl(self._socket, termios.TIOCOUTQ, bytes(4)) == bytes(4), "that all lines are taken")
 
-    def end(self, are_read):
+    def end(self, are_read=lambda: None):
         """Ends it when all that it was sent has been read."""
         are_read()
         self._process.terminate()
@@ -139,7 +143,8 @@ class Stock:
 
     def stored(self):
         """Whether the broker has a record."""
-        return any(os.path.getsize(log) > 1 for log in glob.glob(os.path.join(self.broker.folder, "data", "jobs", "*", "log")))
+        logs = glob.glob(os.path.join(self.broker.folder, "data", "jobs", "*", "log"))
+        return any(os.path.getsize(log) > 1 for log in logs)
 
     def read(self, producer):
         """Reads until all values have come and the producer has ended, and gives them as they came."""
@@ -221,6 +226,16 @@ class Rsyslog(Stock, unittest.TestCase):
         config, pid = os.path.join(HERE, "rsyslog.conf"), os.path.join(self.folder, "pid")
         return lambda: Daemon(self, "rsyslogd", "-n", "-f", config, "-i", pid)
 
+    def test_lines_are_stored_though_it_ends_while_the_broker_is_away(self):
+        self.broker.kill()
+        producer = self.begin()
+        producer.feed(VALUES[:DURING])
+        self.assertEqual(0, producer.end())
+        self.broker.start()
+        producer = self.begin()
+        producer.feed(VALUES[DURING:])
+        self.assertEqual(set(VALUES), set(self.read(producer)))
+
 
 @needs_program
 class SyslogNg(Stock, unittest.TestCase):
@@ -228,9 +243,10 @@ class SyslogNg(Stock, unittest.TestCase):
         needs("syslog-ng")
         if "kafka" not in subprocess.run(["syslog-ng", "-V"], capture_output=True, text=True, check=True).stdout:
             self.skipTest("syslog-ng-mod-rdkafka isn't installed")
-        config, persist, pid, control = [os.path.join(HERE, "syslog-ng.conf")] + [os.path.join(self.folder, name)
-                                                                                 for name in ("persist", "pid", "control")]
-        return lambda: Daemon(self, "syslog-ng", "-F", "-f", config, "-R", persist, "-p", pid, "-c", control)
+        words = ["-f", os.path.join(HERE, "syslog-ng.conf")]
+        for option, name in (("-R", "persist"), ("-p", "pid"), ("-c", "control")):
+            words += [option, os.path.join(self.folder, name)]
+        return lambda: Daemon(self, "syslog-ng", "-F", *words)
 
 
 if __name__ == "__main__":

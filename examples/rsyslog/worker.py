@@ -10,6 +10,6 @@ from sharebroker import ShareConsumer  # noqa: E402
 
 with ShareConsumer(sys.argv[1], "watchers") as consumer:
     consumer.subscribe(["lines"])
-    while records := consumer.poll(2000, max_records=1):
+    while records := consumer.poll(5000, max_records=1):
         print(f"{sys.argv[2]}: {records[0].value.decode().rstrip()}", flush=True)
         consumer.commit()
