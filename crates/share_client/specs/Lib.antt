@@ -1,0 +1,9 @@
+-- Frames: requests and replies as they go over a link. Traces: the calls of a consumer, and what the newest of them says.
+-- Heartbeats: the rules of the group link. Groups: what its code keeps. Rules: which answers the rules allow. Cores: a consumer
+-- that stands for a trace.
+pub mod Frames
+pub mod Traces
+pub mod Heartbeats
+pub mod Groups
+pub mod Rules
+pub mod Cores
