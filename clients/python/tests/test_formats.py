@@ -22,6 +22,9 @@ CALLS = [messages.API_VERSIONS, messages.METADATA, messages.PRODUCE, messages.DE
 STRUCTURES = {call.name + end: structure for call in CALLS
               for end, structure in (("Request", call.request), ("Response", call.reply))}
 
+#: What Metadata has in the versions 8 to 10 alone: the rows tell it, and the client's version 12 hasn't it.
+OLDER = ("include_cluster_authorized_operations", "cluster_authorized_operations")
+
 #: The batch of the records a, b and c of `crates/layer_rows/data/batches.txt`.
 ABC = bytes_of("0000000000000000 00000049 00000000 02 a7fe9ac9 0000 00000002 0000000000000000 0000000000000000 "
                "ffffffffffffffff ffff ffffffff 00000003 0e00000001026100 0e00000201026200 0e00000401026300")
@@ -124,7 +127,8 @@ class Messages(unittest.TestCase):
         text, _, written = wanted.partition(", written ")
         value = structure.read(source)
         source.end()
-        self.assertEqual(value_of(text), plain(value))
+        told = value_of(text)
+        self.assertEqual({name: told[name] for name in told if name not in OLDER}, plain(value))
         to = Writer()
         structure.write(to, value)
         self.assertEqual(bytes_of(written) if written else data, to.done())
