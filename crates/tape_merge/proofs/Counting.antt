@@ -5,14 +5,14 @@ use Rattle.std.proofs.lemmas.List.{length-replicate}
 use Rattle.std.proofs.lemmas.Option.{none-some, same_Some, slice_get_within}
 use Rattle.share_model.specs.declared.visit.ShardId.{ShardId}
 use Rattle.share_record.specs.declared.tag.Tag.{Tag}
-use Rattle.share_record.specs.declared.tag.Tag.TheVariants.{Part, Expire, Tick, Offer}
+use Rattle.share_record.specs.declared.tag.Tag.TheVariants.{Part}
 use Rattle.share_record.specs.declared.tape.LinkStep.{LinkStep}
 use Rattle.share_record.specs.declared.tape.LinkTape.{LinkTape}
 use Rattle.share_record.specs.declared.tape.ShardTape.{ShardTape}
 use Rattle.tape_merge.specs.declared.moves.Move.{Move}
 use Rattle.tape_merge.specs.declared.moves.Move.TheVariants.{Steps, Alone}
-use Rattle.tape_merge.specs.Matching.{AreMatched, IsMatched, Names, shard_asked, shard_in, shard_of, steps_of, tags_of}
-use Rattle.tape_merge.specs.Moves.{CanGo, Counts, GoOn, IsAlone, IsDone, IsDueOn, IsNext, IsSized, LeftAreLeft, PassedHaveGone, after, next_step, next_tag, one_more}
+use Rattle.tape_merge.specs.Matching.{AreMatched, Names, shard_asked, shard_in, steps_of, tags_of}
+use Rattle.tape_merge.specs.Moves.{CanGo, Counts, GoOn, IsAlone, IsDone, IsDueOn, IsSized, LeftAreLeft, PassedHaveGone, after, next_tag, one_more}
 
 -- ---- lists of counts
 

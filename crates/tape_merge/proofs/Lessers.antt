@@ -1,9 +1,8 @@
 -- The lesser of two steps.
-use Rattle.std.proofs.Common.{◌≡◌, ◌∙◌, ◌<◌, ◌⊎◌, ℕ, Option, Some, None, refl, sym, ap, subst, inl, inr, arith}
+use Rattle.std.proofs.Common.{◌≡◌, ◌∙◌, ◌⊎◌, sym, inl, inr, arith}
 use Rattle.std.proofs.lemmas.Bool.{cases_order}
 use Rattle.tape_merge.specs.declared.place.Place.{Place}
 use Rattle.tape_merge.specs.Matching.{IsBefore}
-use Rattle.tape_merge.specs.Sightings.{IsFine}
 
 before_trans : (a b c : Place) → IsBefore a b → IsBefore b c → IsBefore a c
 before_trans a b c (inl h) (inl k) = inl (omega (arith, h, k))

@@ -1,5 +1,5 @@
 -- A merge does each step of each link once, in order, and takes each tape, in order.
-use Rattle.std.proofs.Common.{◌≡◌, ◌<◌, ◌≤◌, ◌+◌, ◌-◌, ◌++◌, ◌⊎◌, ◌∙◌, ℕ, zero, suc, cond, eqb, List, [], ◌∷◌, length, drop, slice_get, slice_index, Option, Some, None, option_to_list, refl, sym, ap, ap₂, subst, inl, inr, arith}
+use Rattle.std.proofs.Common.{◌≡◌, ◌<◌, ◌≤◌, ◌+◌, ◌-◌, ◌++◌, ◌∙◌, ℕ, suc, cond, eqb, List, [], ◌∷◌, length, drop, slice_get, slice_index, Option, Some, None, option_to_list, refl, sym, ap, subst, inl, inr, arith}
 use Rattle.std.specs.List.{range_with_len}
 use Rattle.std.proofs.lemmas.Bool.{cases_eq, eq-eqb, ne_eqb}
 use Rattle.std.proofs.lemmas.List.{drop_all, drop_more}
@@ -12,7 +12,7 @@ use Rattle.tape_merge.specs.declared.moves.Move.{Move}
 use Rattle.tape_merge.specs.declared.moves.Move.TheVariants.{Steps, Alone}
 use Rattle.tape_merge.specs.Matching.{steps_of, tags_of}
 use Rattle.tape_merge.specs.Moves.{CanGo, Counts, GoOn, IsDone, IsSized, after, begin, next_tag, one_more}
-use Rattle.tape_merge.specs.Merges.{KeepsOrders, steps_by, steps_done, tags_by, tags_taken}
+use Rattle.tape_merge.specs.Merges.{KeepsOrders, steps_by, steps_done, tags_taken}
 use Rattle.tape_merge.proofs.Counting.{due_tag, goes_within, more_other, more_same, none_past, sized_after, sized_at_first, tag_within, zero_at}
 
 -- ---- what is left of a list of numbers, and of a list

@@ -1,19 +1,18 @@
 -- Which links' next steps may go, behind a move.
-use Rattle.std.proofs.Common.{◌≡◌, ◌<◌, ◌≤◌, ◌+◌, ◌⊎◌, ◌∙◌, ℕ, zero, suc, Bool, true, false, cond, List, [], ◌∷◌, length, slice_get, slice_index, Option, Some, None, IsTrue, refl, sym, ap, subst, inl, inr, arith, nat_cmp, is_gt, eqb}
+use Rattle.std.proofs.Common.{◌≡◌, ◌<◌, ◌+◌, ◌⊎◌, ◌∙◌, ℕ, Bool, true, false, cond, List, [], ◌∷◌, length, slice_get, slice_index, Option, Some, None, IsTrue, refl, sym, ap, subst, inl, inr, arith, nat_cmp, is_gt, eqb}
 use Rattle.std.specs.List.{list_any}
 use Rattle.std.specs.BTreeMap.{is_at}
 use Rattle.std.proofs.lemmas.Bool.{cases_lt, cases_eq, cases_order, cases_Bool, eq-eqb, eqb-true, false≢true, ne_eqb}
 use Rattle.std.proofs.lemmas.Bool.Decides.{nat_tests}
 use Rattle.std.proofs.lemmas.Option.{none-some, same_Some}
 use Rattle.share_model.specs.declared.visit.ShardId.{ShardId}
-use Rattle.share_record.specs.declared.tag.Tag.{Tag}
 use Rattle.share_record.specs.declared.tag.Tag.TheVariants.{Part}
 use Rattle.share_record.specs.declared.tape.LinkTape.{LinkTape}
 use Rattle.share_record.specs.declared.tape.ShardTape.{ShardTape}
 use Rattle.tape_merge.specs.declared.moves.Move.{Move}
 use Rattle.tape_merge.specs.declared.moves.Move.TheVariants.{Steps, Alone}
-use Rattle.tape_merge.specs.Matching.{shard_of, steps_of, tags_of}
-use Rattle.tape_merge.specs.Moves.{CanGo, Counts, GoesAlone, GoesBefore, IsAlone, IsDueOn, IsNext, StepGoes, after, next_step, next_tag, one_more}
+use Rattle.tape_merge.specs.Matching.{steps_of, tags_of}
+use Rattle.tape_merge.specs.Moves.{CanGo, Counts, GoesAlone, GoesBefore, IsDueOn, IsNext, StepGoes, after, next_tag}
 use Rattle.tape_merge.specs.Readiness.{Any, Gains, Has, IsNamed, IsOther, IsReadyIf, MayGo, Touched}
 use Rattle.tape_merge.proofs.Counting.{alone_names, due_tag, link_within, more_other, one_step, one_tag, part_link}
 

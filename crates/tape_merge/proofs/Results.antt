@@ -1,5 +1,5 @@
 -- A merge that goes to its end gives a session.
-use Rattle.std.proofs.Common.{◌≡◌, ◌++◌, ◌∙◌, ℕ, List, Result, Ok, Err, IfOk, refl, sym, ap, subst}
+use Rattle.std.proofs.Common.{◌≡◌, ◌++◌, ◌∙◌, ℕ, List, Result, Ok, Err, IfOk, ap, subst}
 use Rattle.session_script.specs.declared.event.Event.{Event}
 use Rattle.topic_conf.specs.declared.topic.Topic.{Topic}
 use Rattle.share_record.specs.declared.tape.LinkTape.{LinkTape}

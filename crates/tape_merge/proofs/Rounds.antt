@@ -1,17 +1,15 @@
 -- Steps that stand behind each other in a round keep each other from going.
-use Rattle.std.proofs.Common.{◌≡◌, ◌<◌, ◌≤◌, ◌+◌, ◌⊎◌, ◌∙◌, ℕ, List, [], ◌∷◌, length, slice_get, slice_index, Option, Some, None, refl, sym, ap, subst, inl, inr, arith}
+use Rattle.std.proofs.Common.{◌≤◌, List, [], ◌∷◌, length, slice_index, ap, subst, inl, inr, arith}
 use Rattle.std.specs.List.{AllByRecursion}
 use Rattle.std.proofs.lemmas.Bool.{cases_lt}
 use Rattle.std.proofs.lemmas.Option.{slice_get_within}
-use Rattle.share_record.specs.declared.tag.Tag.{Tag}
 use Rattle.share_record.specs.declared.tag.Tag.TheVariants.{Part}
 use Rattle.share_record.specs.declared.tape.LinkTape.{LinkTape}
 use Rattle.share_record.specs.declared.tape.ShardTape.{ShardTape}
 use Rattle.tape_merge.specs.declared.moves.Move.{Move}
 use Rattle.tape_merge.specs.declared.place.Place.{Place}
-use Rattle.tape_merge.specs.Matching.{Descend, IsBehind, IsLaterOnLink, IsLaterOnTape, IsLeastOfCycle, Names, steps_of, tags_of}
+use Rattle.tape_merge.specs.Matching.{Descend, IsBehind, IsLeastOfCycle, steps_of, tags_of}
 use Rattle.tape_merge.specs.Moves.{Counts, GoOn, IsDone, IsSized, LeftAreLeft, PassedHaveGone, after, begin}
-use Rattle.tape_merge.specs.Merges.{IsMerge}
 use Rattle.tape_merge.proofs.Counting.{gone_bound, left_from_done, none_past, passed_at_first, passed_bound, passed_more, sized_after, sized_at_first, zero_at}
 
 module _ (tapes : List ShardTape) (links : List LinkTape) where

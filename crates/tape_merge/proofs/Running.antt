@@ -1,6 +1,6 @@
 -- What a merge keeps from move to move, and that it ends.
-use Rattle.std.proofs.Common.{◌≡◌, ◌<◌, ◌≤◌, ◌+◌, ◌-◌, ◌^◌, ◌++◌, ◌∙◌, ℕ, zero, suc, List, [], ◌∷◌, length, map, slice_get, slice_index, Option, Some, None, refl, sym, ap, subst, arith, append_assoc, append-nil}
-use Rattle.std.proofs.lemmas.Option.{none-some, slice_get_within}
+use Rattle.std.proofs.Common.{◌≡◌, ◌<◌, ◌+◌, ◌-◌, ◌++◌, ◌∙◌, ℕ, zero, suc, List, [], ◌∷◌, length, map, slice_index, Option, Some, None, refl, sym, ap, subst, arith, append_assoc, append-nil}
+use Rattle.std.proofs.lemmas.Option.{slice_get_within}
 use Rattle.session_script.specs.declared.event.Event.{Event}
 use Rattle.topic_conf.specs.declared.topic.Topic.{Topic}
 use Rattle.share_record.specs.declared.tag.Tag.{Tag}
@@ -10,8 +10,8 @@ use Rattle.share_record.specs.declared.tape.ShardTape.{ShardTape}
 use Rattle.tape_merge.specs.declared.moves.Move.{Move}
 use Rattle.tape_merge.specs.declared.moves.Move.TheVariants.{Steps, Alone}
 use Rattle.tape_merge.specs.Matching.{AreMatched, steps_of, tags_of}
-use Rattle.tape_merge.specs.Moves.{CanCount, CanGo, Counts, GoOn, HasRoom, IsCounted, IsNext, IsSized, LeftAreLeft, PassedHaveGone, after, begin, next_tag, one_more}
-use Rattle.tape_merge.specs.Readiness.{Any, IsOther, IsReadyIf}
+use Rattle.tape_merge.specs.Moves.{CanGo, Counts, GoOn, HasRoom, IsCounted, IsNext, IsSized, LeftAreLeft, PassedHaveGone, after, begin, next_tag, one_more}
+use Rattle.tape_merge.specs.Readiness.{Any, IsReadyIf}
 use Rattle.tape_merge.specs.Telling.{told, told_by}
 use Rattle.tape_merge.specs.Waiting.{IsStuck}
 use Rattle.tape_merge.proofs.Counting.{due_tag, goes_within, left_at_first, left_more, passed_at_first, passed_more, sized_after, sized_at_first, tag_within}

@@ -1,5 +1,5 @@
 -- One tag more is seen, and what is known once all tags are.
-use Rattle.std.proofs.Common.{◌≡◌, ◌<◌, ◌≤◌, ◌+◌, ◌⊎◌, ◌∙◌, ℕ, zero, suc, is_some, Bool, true, false, cond, not, ◌&&◌, List, [], ◌∷◌, length, slice_get, Option, Some, None, IsTrue, IsSome, refl, sym, ap, ap₂, subst, inl, inr, arith, nat_cmp, eqb}
+use Rattle.std.proofs.Common.{◌≡◌, ◌<◌, ◌+◌, ◌⊎◌, ◌∙◌, ℕ, zero, suc, is_some, Bool, true, false, cond, not, ◌&&◌, List, [], ◌∷◌, length, slice_get, Option, Some, None, IsTrue, IsSome, refl, sym, ap, ap₂, subst, inl, inr, arith, nat_cmp, eqb}
 use Rattle.std.specs.List.{list_any}
 use Rattle.std.specs.Ordering.{is_eq, ordering_then}
 use Rattle.std.specs.BTreeMap.{is_at}
@@ -15,7 +15,7 @@ use Rattle.share_record.specs.declared.tape.LinkStep.{LinkStep}
 use Rattle.share_record.specs.declared.tape.LinkTape.{LinkTape}
 use Rattle.share_record.specs.declared.tape.ShardTape.{ShardTape}
 use Rattle.tape_merge.specs.declared.place.Place.{Place}
-use Rattle.tape_merge.specs.Matching.{AreMatched, IsBefore, IsFirstUnmatched, IsMatched, Names, shard_asked, shard_in, shard_of, steps_in, steps_of, tags_of}
+use Rattle.tape_merge.specs.Matching.{IsBefore, IsMatched, Names, shard_asked, shard_in, shard_of, steps_in, steps_of, tags_of}
 use Rattle.tape_merge.specs.Sightings.{AreAllNamed, AreNamed, Found, HasSeen, HasStep, IsFine, IsSeen, IsWrong, place_cmp}
 use Rattle.tape_merge.proofs.Counting.{one_step, renamed, tape_within}
 

@@ -1,11 +1,11 @@
 -- Which links are ready, by what calls answer.
-use Rattle.std.proofs.Common.{◌≡◌, ◌∙◌, ◌<◌, ℕ, Bool, true, false, cond, List, length, Option, Some, None, IfSome, IfNone, refl, sym, ap, subst, nat_cmp, is_gt}
+use Rattle.std.proofs.Common.{◌≡◌, ◌<◌, ℕ, false, cond, List, length, Option, Some, None, IfNone, sym, subst, nat_cmp, is_gt}
 use Rattle.std.specs.List.{list_any}
 use Rattle.std.specs.BTreeMap.{is_at}
 use Rattle.share_record.specs.declared.tape.LinkTape.{LinkTape}
 use Rattle.share_record.specs.declared.tape.ShardTape.{ShardTape}
 use Rattle.tape_merge.specs.declared.moves.Move.{Move}
-use Rattle.tape_merge.specs.declared.moves.Move.TheVariants.{Steps, Alone}
+use Rattle.tape_merge.specs.declared.moves.Move.TheVariants.{Alone}
 use Rattle.tape_merge.specs.Moves.{CanGo, Counts, GoesAlone, IsNext, StepGoes, after}
 use Rattle.tape_merge.specs.Readiness.{Any, Gains, Has, IsNamed, IsOther, IsReadyIf, MayGo, Touched}
 use Rattle.tape_merge.proofs.Goings.{Goes, GoesNot}

@@ -1,5 +1,5 @@
 -- The events that open links, one after another.
-use Rattle.std.proofs.Common.{◌≡◌, ◌<◌, ◌≤◌, ◌+◌, ◌-◌, ◌/◌, ◌++◌, ◌∙◌, ℕ, suc, List, Option, Some, None, slice_get, [], ◌∷◌, length, map, take, drop, get_or, refl, sym, ap, subst, arith, append_assoc, append-nil, length-drop, add-one}
+use Rattle.std.proofs.Common.{◌≡◌, ◌<◌, ◌≤◌, ◌+◌, ◌-◌, ◌/◌, ◌++◌, ◌∙◌, ℕ, suc, List, Option, Some, slice_get, [], ◌∷◌, length, map, take, drop, get_or, sym, ap, arith, append_assoc, append-nil, length-drop, add-one}
 use Rattle.std.proofs.lemmas.List.{drop_more, drop_all, nil_from_length, take_all}
 use Rattle.session_script.specs.declared.event.Event.{Event}
 use Rattle.session_script.specs.declared.event.Event.TheVariants.{Bytes}

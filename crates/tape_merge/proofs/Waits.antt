@@ -1,8 +1,8 @@
 -- Where nothing may go and a step is left, its link waits for another one, and links that wait for each other in a row that returns make a cycle.
-use Rattle.std.proofs.Common.{◌≡◌, ◌<◌, ◌≤◌, ◌+◌, ◌++◌, ◌⊎◌, ◌↔◌, ◌||◌, ◌∙◌, ℕ, Bool, true, false, min, nat_eq, eqb, IsTrue, zero, suc, List, [], ◌∷◌, length, slice_get, slice_index, slice_index_or, Option, Some, None, Contains, AllPairs, refl, sym, ap, subst, inl, inr, arith}
+use Rattle.std.proofs.Common.{◌≡◌, ◌<◌, ◌≤◌, ◌+◌, ◌++◌, ◌⊎◌, ◌↔◌, ◌||◌, ◌∙◌, ℕ, true, false, min, nat_eq, eqb, IsTrue, zero, suc, List, [], ◌∷◌, length, slice_index, slice_index_or, Option, Some, None, Contains, refl, sym, ap, subst, inl, inr, arith}
 use Rattle.std.specs.List.{AllByRecursion, IsDistinct, list_any}
 use Rattle.std.proofs.lemmas.Bool.{cases_lt, cases_eq, cases_order, eq-eqb, eqb-true, false≢true, ne_eqb, or_cases, or_right}
-use Rattle.std.proofs.lemmas.Option.{none-some, same_Some, slice_get_within, slice_get-get_or, slice_get_past}
+use Rattle.std.proofs.lemmas.Option.{none-some, same_Some, slice_get_within, slice_get_past}
 use Rattle.std.proofs.lemmas.List.Elements.{Contains-append_right, Contains-get_or}
 use Rattle.std.proofs.lemmas.Map.Keys.{IsDistinct-from_apart}
 use Rattle.share_model.specs.declared.visit.ShardId.{ShardId}
@@ -11,11 +11,10 @@ use Rattle.share_record.specs.declared.tag.Tag.TheVariants.{Part, Expire, Tick, 
 use Rattle.share_record.specs.declared.tape.LinkStep.{LinkStep}
 use Rattle.share_record.specs.declared.tape.LinkTape.{LinkTape}
 use Rattle.share_record.specs.declared.tape.ShardTape.{ShardTape}
-use Rattle.tape_merge.specs.declared.moves.Move.{Move}
 use Rattle.tape_merge.specs.declared.moves.Move.TheVariants.{Steps, Alone}
 use Rattle.tape_merge.specs.declared.place.Place.{Place}
-use Rattle.tape_merge.specs.Matching.{AreApart, AreMatched, Descend, IsBefore, IsBehind, IsLaterOnTape, IsLeastOfCycle, IsMatched, Names, shard_asked, shard_in, shard_of, steps_of, tags_of}
-use Rattle.tape_merge.specs.Moves.{CanGo, Counts, GoesAlone, IsAlone, IsDone, IsDueOn, LeftAreLeft, PassedHaveGone, next_step, next_tag}
+use Rattle.tape_merge.specs.Matching.{AreApart, AreMatched, Descend, IsBefore, IsLaterOnTape, IsLeastOfCycle, Names, shard_asked, shard_in, shard_of, steps_of, tags_of}
+use Rattle.tape_merge.specs.Moves.{Counts, GoesAlone, IsAlone, IsDone, IsDueOn, next_step, next_tag}
 use Rattle.tape_merge.specs.Readiness.{IsNamed}
 use Rattle.tape_merge.specs.Waiting.{HasLeft, IsStuck, WaitInRow, WaitsFor, next_place}
 use Rattle.tape_merge.proofs.Counting.{asked_by, none_past, tape_within}

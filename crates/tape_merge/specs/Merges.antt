@@ -1,7 +1,7 @@
 -- What a merge of the tapes of a run gives, and what it keeps. This project's own.
 -- Worked example: links 0 and 1 with one step each on `orders` 0, at the moments 10 and 20 and with the bytes `aa` and `bb`, and the
 -- tape that has the step of link 1 first: `open 0`, `bytes 0 aa`, `open 1`, `bytes 1 bb`, `step 1 20`, `step 0 10`.
-use Rattle.std.specs.Prelude.{◌≡◌, ◌++◌, ◌==◌, ℕ, List, [], ◌∷◌, length, slice_index, Option, Some, None, if◌then◌else◌, option_to_list}
+use Rattle.std.specs.Prelude.{◌≡◌, ◌++◌, ◌==◌, ℕ, List, [], ◌∷◌, length, slice_index, Some, None, if◌then◌else◌, option_to_list}
 use Rattle.std.specs.List.{range_with_len}
 use Rattle.session_script.specs.declared.event.Event.{Event}
 use Rattle.topic_conf.specs.declared.topic.Topic.{Topic}

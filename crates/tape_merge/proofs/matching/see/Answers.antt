@@ -1,4 +1,4 @@
-use Rattle.std.proofs.Common.{◌≡◌, ◌∙◌, Some, ap, subst, sym}
+use Rattle.std.proofs.Common.{◌∙◌, Some, ap, subst, sym}
 use Rattle.tape_merge.specs.Moves.{IsAlone}
 use Rattle.tape_merge.proofs.Counting.{alone_names}
 use Rattle.tape_merge.proofs.Seeing.{seen_other}

@@ -1,5 +1,4 @@
-use Rattle.std.proofs.Common.{◌≡◌, ap, subst}
-use Rattle.tape_merge.specs.Matching.{IsFirstUnmatched, IsLeastOfCycle}
+use Rattle.std.proofs.Common.{subst}
 use Rattle.tape_merge.specs.Outcomes.{IsOutcome}
 use Rattle.tape_merge.proofs.Results.{tangled_as, unmatched_as}
 use Rattle.tape_merge.proofs.merging.merge.Goals as goal

@@ -1,5 +1,3 @@
-use Rattle.std.proofs.Common.{sym}
-use Rattle.std.proofs.lemmas.Option.{none-some}
 use Rattle.tape_merge.proofs.Goings.{alone_if, alone_none}
 use Rattle.tape_merge.proofs.moves.goes_alone.Goals as goal
 

@@ -1,6 +1,3 @@
-use Rattle.std.proofs.Common.{◌≡◌, ◌∙◌, Option, Some, None, refl, sym, ap, subst}
-use Rattle.std.proofs.lemmas.Option.{none-some, same_Some}
-use Rattle.tape_merge.specs.Moves.{IsDueOn}
 use Rattle.tape_merge.proofs.Goings.{free_goes, not_asked, not_due, not_there, not_tagged, tagged_goes}
 use Rattle.tape_merge.proofs.moves.step_move.Goals as goal
 

@@ -1,6 +1,6 @@
-use Rattle.std.proofs.Common.{◌<◌, length, sym, subst}
-use Rattle.tape_merge.specs.Readiness.{Any, IsReadyIf}
-use Rattle.tape_merge.proofs.Readies.{ready_all, ready_more, ready_none}
+use Rattle.std.proofs.Common.{◌<◌, sym, subst}
+use Rattle.tape_merge.specs.Readiness.{IsReadyIf}
+use Rattle.tape_merge.proofs.Readies.{ready_more, ready_none}
 use Rattle.tape_merge.proofs.ready.first_ready.Goals as goal
 
 pub loop-link-init : goal.loop-link-init

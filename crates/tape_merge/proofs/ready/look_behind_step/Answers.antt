@@ -1,4 +1,4 @@
-use Rattle.std.proofs.Common.{◌≡◌, Some, None, subst, sym}
+use Rattle.std.proofs.Common.{◌≡◌, subst, sym}
 use Rattle.tape_merge.specs.declared.moves.Move.TheVariants.{Steps}
 use Rattle.tape_merge.specs.Readiness.{Gains, IsNamed, Touched}
 use Rattle.tape_merge.proofs.Readies.{gains_both}

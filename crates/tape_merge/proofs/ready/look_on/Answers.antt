@@ -1,5 +1,5 @@
 use Rattle.tape_merge.specs.Readiness.{IsNamed}
-use Rattle.tape_merge.proofs.Readies.{gains_as, gains_nothing, named_one}
+use Rattle.tape_merge.proofs.Readies.{gains_nothing}
 use Rattle.tape_merge.proofs.Steadies.{named_as}
 use Rattle.tape_merge.proofs.ready.look_on.Goals as goal
 

@@ -1,6 +1,4 @@
-use Rattle.std.proofs.Common.{◌∷◌, ◌∙◌, IsTrue, nat_eq, ap, subst}
-use Rattle.std.specs.List.{list_any}
-use Rattle.std.proofs.lemmas.Bool.{false≢true}
+use Rattle.std.proofs.Common.{◌∷◌, ◌∙◌, ap, subst}
 use Rattle.tape_merge.specs.Waiting.{WaitInRow}
 use Rattle.tape_merge.proofs.Waits.{row_has, row_tail}
 use Rattle.tape_merge.proofs.tangle.row_from.Goals as goal

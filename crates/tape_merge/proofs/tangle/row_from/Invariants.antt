@@ -1,4 +1,4 @@
-use Rattle.std.proofs.Common.{ℕ, List, IsTrue, length, nat_eq}
+use Rattle.std.proofs.Common.{List, IsTrue, length, nat_eq}
 use Rattle.std.specs.List.{list_any}
 use Rattle.share_record.specs.declared.tape.LinkTape.{LinkTape}
 use Rattle.share_record.specs.declared.tape.ShardTape.{ShardTape}

@@ -1,4 +1,4 @@
-use Rattle.std.proofs.Common.{◌∙◌, sym, ap, slice_get}
+use Rattle.std.proofs.Common.{◌∙◌, ap, slice_get}
 use Rattle.tape_merge.specs.Matching.{steps_in}
 use Rattle.tape_merge.proofs.tapes.step_of.Goals as goal
 

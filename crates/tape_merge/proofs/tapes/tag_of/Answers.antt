@@ -1,4 +1,4 @@
-use Rattle.std.proofs.Common.{◌∙◌, sym, ap, slice_get}
+use Rattle.std.proofs.Common.{◌∙◌, ap, slice_get}
 use Rattle.tape_merge.specs.Matching.{tags_in}
 use Rattle.tape_merge.proofs.tapes.tag_of.Goals as goal
 

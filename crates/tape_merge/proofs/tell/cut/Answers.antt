@@ -1,4 +1,4 @@
-use Rattle.std.proofs.Common.{◌≡◌, ◌<◌, ◌≤◌, ◌∙◌, length, arith, refl}
+use Rattle.std.proofs.Common.{◌<◌, ◌≤◌, ◌∙◌, length, arith, refl}
 use Rattle.tape_merge.proofs.Tellings.{few_left, few_taken}
 use Rattle.tape_merge.proofs.tell.cut.Goals as goal
 

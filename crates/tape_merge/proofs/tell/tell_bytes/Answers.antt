@@ -1,4 +1,4 @@
-use Rattle.std.proofs.Common.{◌≡◌, ◌<◌, ◌++◌, ◌∷◌, ◌∙◌, [], length, take, ap, refl, arith, length-drop}
+use Rattle.std.proofs.Common.{◌++◌, ◌∷◌, ◌∙◌, [], length, take, ap, refl, arith, length-drop}
 use Rattle.session_script.specs.declared.event.Event.TheVariants.{Bytes}
 use Rattle.tape_merge.proofs.Tellings.{all_pieces_told, bytes_told, piece_told}
 use Rattle.tape_merge.proofs.tell.tell_bytes.Goals as goal

@@ -1,4 +1,4 @@
-use Rattle.std.proofs.Common.{◌≡◌, ◌++◌, ◌∷◌, ◌+◌, ◌∙◌, Some, slice_get, ap, sym, add-one}
+use Rattle.std.proofs.Common.{◌++◌, ◌∷◌, ◌+◌, ◌∙◌, slice_get, ap, sym, add-one}
 use Rattle.session_script.specs.declared.event.Event.TheVariants.{Step}
 use Rattle.tape_merge.specs.Telling.{close_at, last_close, step_at}
 use Rattle.tape_merge.proofs.Tellings.{told_none, told_step}
