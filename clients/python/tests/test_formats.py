@@ -134,7 +134,7 @@ class Messages(unittest.TestCase):
         self.assertEqual(bytes_of(written) if written else data, to.done())
 
     def test_a_request_has_its_size_and_header(self):
-        # docs/PROTOCOL.md, the Read of its last worked exchange; the client id is null there, which this client never
+        # docs/SCRIPT.md, the first Read of its last example; the client id is null there, which this client never
         # sends.
         request = messages.ReadShareGroupStateRequest("g1", [
             messages.ReadTopic(uuid.UUID(bytes=b"\x11" * 16), [messages.ReadPartition(0, 0)])])
