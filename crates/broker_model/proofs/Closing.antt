@@ -68,7 +68,8 @@ use Rattle.broker_model.proofs.Lists.{all_entry, entry_at, entry_holds, holds_of
 use Rattle.broker_model.proofs.Histories.{keys_exact, keys_total}
 use Rattle.broker_model.proofs.Maps.{set_found, set_other}
 use Rattle.broker_model.proofs.Raises.{pending_one, row_from}
-use Rattle.broker_model.proofs.Passing.{LogGoes, first_entry, goes_log, rises_back, slot_below, table_at, table_set}
+use Rattle.broker_model.proofs.LogsBack.{LogGoes, first_entry, goes_log, rises_back, slot_below}
+use Rattle.broker_model.proofs.Passing.{table_at, table_set}
 
 -- ---- logs
 

@@ -73,23 +73,33 @@ module _ (conf : ConfigParts) (s : Step) (step : IsStepOf conf s) (n : ℕ) wher
   acts_go (inl quiet) = all_stay (ap (λ (x : Shards). x.parts) quiet.same)
   acts_go (inr d) = did_goes d.now d.did d.is d.step
 
-  goes_on : GoesOn
-  goes_on = ⊎_elim
-      (λ free. acts_go (step_acts (counts_of s.before s.after) (ends_of s.before s.after) conf s.before.machine s.after.machine s.call s.outcomes s.event free step.machine))
-      (λ p.
+  -- where the step is a power loss, the partition is lost in it
+  lost_on : (choice : ℕ) → s.event ≡ Power choice → Both n (IsLostIn s) (parts_of s.before) (parts_of s.after)
+  lost_on choice is =
       let restart : IsRestart s.before.machine s.call s.outcomes s.after.machine =
-      subst (λ (e : Event). StepsTo conf (counts_of s.before s.after) (ends_of s.before s.after) s.before.machine e s.call s.outcomes s.after.machine) p.1 step.machine in
-      let lost : LosesAll conf p.0 s.before.ends s.before.disks s.after.disks s.after.machine =
-      subst (λ (e : Event). OnLosses conf e s.before.ends s.before.disks s.after.disks s.after.machine) p.1 step.losses in
-      both_so n LandsPart (Goes n s) (parts_of s.before) (parts_of s.after)
-      (λ x y at lands. inr (inr (record {
-        choice = p.0;
-        event = p.1;
+      subst (λ (e : Event). StepsTo conf (counts_of s.before s.after) (ends_of s.before s.after) s.before.machine e s.call s.outcomes s.after.machine) is step.machine in
+      let lost : LosesAll conf choice s.before.ends s.before.disks s.after.disks s.after.machine =
+      subst (λ (e : Event). OnLosses conf e s.before.ends s.before.disks s.after.disks s.after.machine) is step.losses in
+      both_so n LandsPart (IsLostIn s) (parts_of s.before) (parts_of s.after)
+      (λ x y at lands. record {
+        choice = choice;
+        event = is;
         lands = lands;
         contents = lost.contents;
         opens = all_entry n (OpensPart lost.contents) (parts_of s.after) y at lost.opens.parts;
-      })))
-      (zip_both n LandsPart (parts_of s.before) (parts_of s.after) restart.lands.parts))
+      })
+      (zip_both n LandsPart (parts_of s.before) (parts_of s.after) restart.lands.parts)
+
+  pub lost_at : (choice : ℕ) → s.event ≡ Power choice → (x y : HostedPart) → entry_at n (parts_of s.before) ≡ Some x
+      → entry_at n (parts_of s.after) ≡ Some y → IsLostIn s x y
+  lost_at choice is x y was at =
+      let f = forth n (IsLostIn s) (parts_of s.before) (parts_of s.after) x (lost_on choice is) was in
+      subst (IsLostIn s x) (some_same f.0 y (sym f.1 ∙ at)) f.2
+
+  goes_on : GoesOn
+  goes_on = ⊎_elim
+      (λ free. acts_go (step_acts (counts_of s.before s.after) (ends_of s.before s.after) conf s.before.machine s.after.machine s.call s.outcomes s.event free step.machine))
+      (λ p. both_so n (IsLostIn s) (Goes n s) (parts_of s.before) (parts_of s.after) (λ x y at lost. inr (inr lost)) (lost_on p.0 p.1))
       (power_or_not s.event)
 
   -- from what the partition was to what it is, and back
