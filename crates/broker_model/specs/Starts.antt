@@ -102,17 +102,17 @@ FailsToClose r s = ActsToClose (Some Device) r s
 
 -- ---- what a power loss finds
 
--- the step is a power loss that finds a write done by which the record is passed
+-- the step, a power loss, finds a write done by which the record is passed: it wasn't before, and is behind it
 pub record FindsPassed (r : Record) (s : Step) : Type 0 where
   pub before : HoldsAt r.shard (λ (p : HostedPart). IsPassed r.offset (table_in p r.group) → ⊥) s.before.machine.shards.parts
   pub behind : HoldsAt r.shard (λ (p : HostedPart). IsPassed r.offset (table_in p r.group)) s.after.machine.shards.parts
 
--- the step is a power loss, and such a one; or this holds of the steps behind it
+-- a power loss finds such a write, and any other event leaves that to the steps behind it
 abbrev pub FindsOr : Type 0 → Record → Step → Event → Type 0
 FindsOr Later r s (Power choice) = FindsPassed r s
 FindsOr Later r s _ = Later
 
--- power is lost in these steps, and the first time such a write is found
+-- power is lost in these steps, and the first loss finds such a write
 abbrev pub NextLossFinds : Record → List Step → Type 0
 NextLossFinds r [] = ⊥
 NextLossFinds r (s ∷ steps) = FindsOr (NextLossFinds r steps) r s s.event
@@ -122,8 +122,8 @@ pub record IsMadeBehind (r : Record) (s : Step) : Type 0 where
   pub none : HoldsAt r.shard (λ (p : HostedPart). table_in p r.group ≡ None) s.before.machine.shards.parts
   pub behind : HoldsAt r.shard (λ (p : HostedPart). IsBelow r.offset (table_in p r.group)) s.after.machine.shards.parts
 
--- One of the steps has it passed: by an act that is stored, by a table that is made behind it, or by an act whose write fails on the device
--- and is found done at the next power loss.
+-- One of the steps has the record passed: by an act that is stored, by a table that is made behind it, or by an act whose write fails on
+-- the device and is found done by the next power loss.
 pub record ArePassing (r : Record) (steps : List Step) : Type 0 where
   pub before : List Step
   pub step : Step
@@ -146,8 +146,7 @@ abbrev pub OpeningsAreWell : ConfigParts → Type 0
 OpeningsAreWell conf = (contents : List ℕ → List ℕ) (machine : Machine) → Opening conf contents machine → AllByRecursion BeginsWell machine.shards.parts
 
 -- Each slot at or above the log's start that a table's start has passed in the end was passed or closed at first, or one of the steps has it
--- passed.
--- So it is where each partition was well at first.
+-- passed; where each partition was well at first.
 abbrev pub StartsPassClosedRecords : State → List Step → State → Type 0
 StartsPassClosedRecords first steps last = AllByRecursion IsWell first.machine.shards.parts → (r : Record) →
     HoldsAt r.shard (λ (q : HostedPart). IsSlotOf (log_at q.shard.log) r.offset × IsBelow r.offset (table_in q r.group)) last.machine.shards.parts →
