@@ -64,6 +64,15 @@ impl<C, Q, R> Model for Asking<C, Q, R> {
     ghost view = { λ a. record { call = a.call; question = a.question; left = a.left.items; rows = a.rows.items } };
 }
 
+impl<C, Q, R> Asking<C, Q, R> {
+    /// What the call keeps.
+    pub fn call(&self) -> &C
+        ensures { result.now ≡ self.now.call }
+    {
+        &self.call
+    }
+}
+
 /// What a request is at: it asks a part, or has the body of its reply, `None` where it has no reply.
 #[derive(Drop)]
 pub enum Stage<A> {

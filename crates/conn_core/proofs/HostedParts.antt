@@ -55,6 +55,7 @@ use Rattle.share_calls.specs.Changes.{changed}
 use Rattle.share_calls.specs.Codes.{unhosted_code}
 use Rattle.share_calls.specs.Visits.{untold}
 use Rattle.share_calls.specs.Fetch.{told, known, unhosted, fetch_acts, fetch_entries, fetch_hand, refused_with, fetch_begins_by, fetch_begins}
+use Rattle.share_calls.specs.Wishes.{wish_of}
 use Rattle.share_calls.specs.FetchTalks.{request_talk}
 use Rattle.share_calls.specs.Acknowledge.{AckEntry, acknowledged, next_entry, id_of, steps_behind, placed, ack_acts, ack_entries, ack_hand, ack_refused, ack_begins_by, ack_begins}
 use Rattle.share_calls.specs.AckTalks.{ack_talk}
@@ -234,7 +235,7 @@ module _ (conf : ConfigParts) (sessions : List SessionParts) (all : All (HasHost
       refused (Some code) = tt
 
       go : (o : Option SessionFault) → AsksHosted (partitions conf.topics) (stage_talk (talk_of fetch_acts) (fetch_begins_by conf sessions m o).stage)
-      go None = stage_hosted fetch_acts (partitions conf.topics) (fetch_hand conf m) (fetch_entries conf.topics m (fetch_plan sessions conf.topics m))
+      go None = stage_hosted fetch_acts (partitions conf.topics) (fetch_hand conf m (wish_of m (fetch_plan sessions conf.topics m).told)) (fetch_entries conf.topics m (fetch_plan sessions conf.topics m))
           (fetch_entries_hosted conf.topics sessions all m)
       go (Some fault) = refused (code_of fault)
 

@@ -1,5 +1,5 @@
 -- Each told partition of a ShareFetch is told by its own visit.
-use Rattle.std.proofs.Common.{◌≡◌, ◌∙◌, ℕ, ℤ, pos, suc, ◌+◌, ◌-◌, Bool, true, false, ◌&&◌, nat_eq, Option, Some, List, [], ◌∷◌, ◌++◌, length, map, sum_by, slice_get}
+use Rattle.std.proofs.Common.{◌≡◌, ◌∙◌, ℕ, ℤ, pos, suc, ◌+◌, ◌-◌, Bool, true, false, ◌&&◌, nat_eq, Option, Some, None, List, [], ◌∷◌, ◌++◌, length, map, sum_by, slice_get}
 use Rattle.std.proofs.Common.{refl, sym, ap, arith, append_assoc, append-nil}
 use Rattle.std.specs.List.{filter_map, list_all, cons_option}
 use Rattle.std.specs.Option.{option_map}
@@ -23,7 +23,9 @@ use Rattle.share_calls.specs.declared.fetch_rows.FetchRow.{FetchRow}
 use Rattle.share_calls.specs.declared.visiting.Visiting.{Visiting}
 use Rattle.share_calls.specs.Fetch.{granted, hand_after, row_for, unhosted, told, known, fetch_acts, fetch_body, fetch_entries, fetch_hand}
 use Rattle.share_calls.specs.Visits.{untold, told_rows}
-use Rattle.share_calls.specs.FetchTalks.{part_after, limits_left, visit_part, Answered, PlanBeside, steps_in, answers_in, plan_in, own_row, fetch_talk, TellsByItsVisit}
+use Rattle.share_calls.specs.declared.wish.WaitWish.{WaitWish}
+use Rattle.share_calls.specs.Wishes.{wish_of}
+use Rattle.share_calls.specs.FetchTalks.{part_after, wish_left, limits_left, visit_part, Answered, PlanBeside, steps_in, answers_in, plan_in, own_row, fetch_talk, TellsByItsVisit}
 use Rattle.share_calls.proofs.Placing.{cons_append}
 
 abbrev FetchEntry : Type 0
@@ -45,14 +47,18 @@ less_none n = omega arith
 less_more : (n a b c : ℕ) → c ≡ a + b → (n - a) - b ≡ n - c
 less_more n a b c e = omega (arith, e)
 
-abbrev hand_with : ℤ → ℕ → ℕ → Bool → FetchHand
-hand_with lock records bytes first = record { lock_ms = lock; records = records; bytes = bytes; first = first }
+abbrev hand_with : ℤ → Option WaitWish → ℕ → ℕ → Bool → FetchHand
+hand_with lock wish records bytes first = record { lock_ms = lock; records = records; bytes = bytes; first = first; wish = wish }
+
+none_left : (answers : List VisitAnswer) → wish_left None answers ≡ None
+none_left [] = refl
+none_left (a ∷ answers) = refl
 
 no_limits : (hand : FetchHand) → limits_left hand [] ≡ hand
 no_limits hand =
-    ap (λ n. hand_with hand.lock_ms n (hand.bytes - 0) (hand.first && true)) (less_none hand.records)
-    ∙ ap (λ n. hand_with hand.lock_ms hand.records n (hand.first && true)) (less_none hand.bytes)
-    ∙ ap (hand_with hand.lock_ms hand.records hand.bytes) (and_true hand.first)
+    ap (λ n. hand_with hand.lock_ms hand.wish n (hand.bytes - 0) (hand.first && true)) (less_none hand.records)
+    ∙ ap (λ n. hand_with hand.lock_ms hand.wish hand.records n (hand.first && true)) (less_none hand.bytes)
+    ∙ ap (hand_with hand.lock_ms hand.wish hand.records hand.bytes) (and_true hand.first)
 
 more_limits : (hand : FetchHand) (a : VisitAnswer) (answers : List VisitAnswer) → limits_left (hand_after hand a) answers ≡ limits_left hand (a ∷ answers)
 more_limits hand a answers =
@@ -60,11 +66,13 @@ more_limits hand a answers =
     let of_batches = λ (b : VisitAnswer). length b.batches in
     let empty = λ (b : VisitAnswer). nat_eq (length b.batches) 0 in
     let after = hand_after hand a in
-    ap (λ n. hand_with hand.lock_ms n (after.bytes - sum_by of_batches answers) (after.first && list_all empty answers))
+    ap (λ w. hand_with hand.lock_ms w (after.records - sum_by of_grants answers) (after.bytes - sum_by of_batches answers) (after.first && list_all empty answers))
+    (none_left answers)
+    ∙ ap (λ n. hand_with hand.lock_ms None n (after.bytes - sum_by of_batches answers) (after.first && list_all empty answers))
     (less_more hand.records (of_grants a) (sum_by of_grants answers) (sum_by of_grants (a ∷ answers)) (sum_by-cons of_grants a answers))
-    ∙ ap (λ n. hand_with hand.lock_ms (hand.records - sum_by of_grants (a ∷ answers)) n (after.first && list_all empty answers))
+    ∙ ap (λ n. hand_with hand.lock_ms None (hand.records - sum_by of_grants (a ∷ answers)) n (after.first && list_all empty answers))
     (less_more hand.bytes (of_batches a) (sum_by of_batches answers) (sum_by of_batches (a ∷ answers)) (sum_by-cons of_batches a answers))
-    ∙ ap (hand_with hand.lock_ms (hand.records - sum_by of_grants (a ∷ answers)) (hand.bytes - sum_by of_batches (a ∷ answers)))
+    ∙ ap (hand_with hand.lock_ms None (hand.records - sum_by of_grants (a ∷ answers)) (hand.bytes - sum_by of_batches (a ∷ answers)))
     (and_assoc hand.first (empty a) (list_all empty answers))
 
 -- ---- the visits
@@ -185,10 +193,10 @@ module _ (conf : ConfigParts) (r : ShareFetchRequest) (b : PlanBeside) where
       count_untold b.released middle (answers_in b.told ++ answers_last)
       (count_told conf.topics b.told closed answers_last (count_untold b.closed behind [] (count_known (unhosted conf.topics r))))
 
-  says_rows : talk_reply (talk fetch_acts (fetch_hand conf r) whole []) all_answers
+  says_rows : (wish : Option WaitWish) → talk_reply (talk fetch_acts (fetch_hand conf r wish) whole []) all_answers
       ≡ Some (Some (fetch_body (pos conf.lock_ms) (pos 0) (filter_map (own_row conf.topics) b.told ++ unhosted conf.topics r)))
-  says_rows =
-      let hand = fetch_hand conf r in
+  says_rows wish =
+      let hand = fetch_hand conf r wish in
       let rows = entry_rows fetch_acts hand whole all_answers in
       says_all fetch_acts hand whole [] all_answers all_count
       ∙ ap (λ ms. Some (Some (fetch_body ms (pos 0) (told_rows rows)))) (lock_kept hand whole all_answers)
@@ -197,16 +205,16 @@ module _ (conf : ConfigParts) (r : ShareFetchRequest) (b : PlanBeside) where
 pub tells_by_visit : TellsByItsVisit
 tells_by_visit = record {
   visits = λ conf r plan answers.
-      let hand = fetch_hand conf r in
+      let hand = fetch_hand conf r (wish_of r plan.told) in
       let es = fetch_entries conf.topics r plan in
       ap (λ t. part_after t (map (λ a. Visit a) answers)) ((means_entries fetch_acts).begins hand es)
       ∙ next_part hand es [] answers
       ∙ ap (λ steps. option_map (visit_part (limits_left hand answers)) (slice_get steps (length answers))) (asks_steps conf.topics r plan);
   tells = λ conf r beside change.
-      let hand = fetch_hand conf r in
       let plan = plan_in beside change in
+      let hand = fetch_hand conf r (wish_of r plan.told) in
       let ended = sym (append-nil (answers_in beside.closed)) in
       ap (λ l. talk_reply (fetch_talk conf r plan) (answers_in beside.released ++ (answers_in beside.told ++ l))) ended
       ∙ ap (λ t. talk_reply t (all_answers conf r beside)) ((means_entries fetch_acts).begins hand (fetch_entries conf.topics r plan))
-      ∙ says_rows conf r beside;
+      ∙ says_rows conf r beside (wish_of r plan.told);
 }

@@ -49,6 +49,8 @@ use Rattle.share_calls.specs.FetchedRows.{leader}
 use Rattle.share_calls.specs.Partitions.{partition_of}
 use Rattle.share_calls.specs.Rows.{grouped, topics_of}
 use Rattle.share_calls.specs.Visits.{visit_of, untold, told_rows}
+use Rattle.share_calls.specs.declared.wish.WaitWish.{WaitWish}
+use Rattle.share_calls.specs.Wishes.{wish_of}
 
 -- ---- the limits of a reply
 
@@ -67,13 +69,18 @@ offsets g = (g.last + 1) - g.first
 abbrev pub granted : List Grant → ℕ
 granted grants = sum_by offsets grants
 
--- what an answer leaves to the visits behind it
+-- for what it waits before its first visit, if it waits
+abbrev pub waits_for : FetchHand → Option WaitWish
+waits_for hand = hand.wish
+
+-- what an answer leaves to the visits behind it; it has waited then
 abbrev pub hand_after : FetchHand → VisitAnswer → FetchHand
 hand_after hand answer = record {
   lock_ms = hand.lock_ms;
   records = hand.records - granted answer.grants;
   bytes = hand.bytes - length answer.batches;
   first = hand.first && nat_eq (length answer.batches) 0;
+  wish = None;
 }
 
 -- ---- a visit
@@ -165,17 +172,18 @@ abbrev pub fetch_entries : List Topic → ShareFetchRequest → PlanParts → Li
 fetch_entries topics r plan =
     map untold plan.released ++ (map (told topics) plan.told ++ (map untold plan.closed ++ map known (unhosted topics r)))
 
-abbrev pub fetch_hand : ConfigParts → ShareFetchRequest → FetchHand
-fetch_hand conf r = record {
+abbrev pub fetch_hand : ConfigParts → ShareFetchRequest → Option WaitWish → FetchHand
+fetch_hand conf r wish = record {
   lock_ms = pos conf.lock_ms;
   records = at_least_0 r.max_records;
   bytes = min (at_least_0 r.max_bytes) most_bytes;
   first = true;
+  wish = wish;
 }
 
 -- a request that isn't refused begins
 abbrev pub fetch_stage : ConfigParts → ShareFetchRequest → PlanParts → Stage (AskingParts FetchHand Visiting (Option FetchRow))
-fetch_stage conf r plan = stage_of fetch_acts (fetch_hand conf r) (fetch_entries conf.topics r plan) []
+fetch_stage conf r plan = stage_of fetch_acts (fetch_hand conf r (wish_of r plan.told)) (fetch_entries conf.topics r plan) []
 
 -- ---- with what a request begins
 

@@ -25,6 +25,8 @@ use Rattle.share_calls.specs.declared.fetch_rows.FetchRow.{FetchRow}
 use Rattle.share_calls.specs.Fetch.{granted, then_of, row_for, unhosted, fetch_acts, fetch_body, fetch_hand, fetch_stage, fetch_begins}
 use Rattle.share_calls.specs.Partitions.{partition_of}
 use Rattle.share_calls.specs.Visits.{visit_of}
+use Rattle.share_calls.specs.declared.wish.WaitWish.{WaitWish}
+use Rattle.share_calls.specs.Wishes.{wish_of}
 
 -- ---- the visits
 
@@ -34,6 +36,11 @@ part_after (says body) answers = None
 part_after (asks part go) [] = Some part
 part_after (asks part go) (answer ∷ answers) = part_after (go answer) answers
 
+-- behind an answer nothing is waited for
+abbrev pub wish_left : Option WaitWish → List VisitAnswer → Option WaitWish
+wish_left wish [] = wish
+wish_left wish (answer ∷ answers) = None
+
 -- the limits less all offsets that were granted and all bytes of batches, and whether no batch was given yet
 abbrev pub limits_left : FetchHand → List VisitAnswer → FetchHand
 limits_left hand answers = record {
@@ -41,6 +48,7 @@ limits_left hand answers = record {
   records = hand.records - sum_by (λ (a : VisitAnswer). granted a.grants) answers;
   bytes = hand.bytes - sum_by (λ (a : VisitAnswer). length a.batches) answers;
   first = hand.first && list_all (λ (a : VisitAnswer). nat_eq (length a.batches) 0) answers;
+  wish = wish_left hand.wish answers;
 }
 
 -- the visit of a step, with these limits
@@ -83,7 +91,7 @@ pub record TellsByItsVisit : Type 0 where
   -- once these answers have come, the next step of the plan is visited, with the limits that they leave
   pub visits : (conf : ConfigParts) (r : ShareFetchRequest) (plan : PlanParts) (answers : List VisitAnswer) →
       part_after (fetch_talk conf r plan) (map (λ a. Visit a) answers)
-      ≡ option_map (visit_part (limits_left (fetch_hand conf r) answers)) (slice_get (steps_of plan) (length answers))
+      ≡ option_map (visit_part (limits_left (fetch_hand conf r (wish_of r plan.told)) answers)) (slice_get (steps_of plan) (length answers))
   -- once all have come, the reply tells the partition of each told step by its own answer, and behind them those that aren't hosted
   pub tells : (conf : ConfigParts) (r : ShareFetchRequest) (beside : PlanBeside) (change : SessionChange) →
       talk_reply (fetch_talk conf r (plan_in beside change)) (answers_in beside.released ++ (answers_in beside.told ++ answers_in beside.closed))

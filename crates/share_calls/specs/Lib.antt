@@ -1,6 +1,7 @@
 pub mod Partitions
 pub mod Codes
 pub mod Visits
+pub mod Wishes
 pub mod Changes
 pub mod Heartbeats
 pub mod Rows

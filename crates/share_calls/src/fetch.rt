@@ -1,9 +1,11 @@
 // ShareFetch.
 ghost use Rattle.std.specs.Prelude.{◌≡◌, ◌++◌, ◌-◌, length, map, pos, Some, [], IfOk, OnOk, OnErr};
-ghost use Rattle.share_calls.specs.Fetch.{at_least_0, offsets, granted, hand_after, then_of, told};
+ghost use Rattle.share_calls.specs.Fetch.{at_least_0, offsets, granted, waits_for, hand_after, then_of, told};
 ghost use Rattle.call_fold.specs.Going.{stage_of};
 ghost use Rattle.share_calls.specs.Fetch.{fetch_acts, fetch_reply, fetch_body, fetch_hand, fetch_begins, known, unhosted};
 ghost use Rattle.share_calls.specs.Visits.{told_rows, untold};
+ghost use Rattle.share_calls.specs.Wishes.{wish_of};
+ghost use Rattle.std.specs.Option.{option_copied};
 ghost use Rattle.share_calls.specs.Changes.{Fits};
 
 use crate::fetch_rows::{FetchRow, fetch_row, push_all_unhosted};
@@ -12,6 +14,7 @@ use crate::groups::topics_of;
 use crate::kept_step::KeptStep;
 use crate::partition::partition_of;
 use crate::visiting::{Visiting, push_untold, visit_of};
+use crate::wish::{WaitWish, wish_of};
 use call_fold::{Asking, Call, Entry, Part, PartAnswer, Stage, go_on};
 use flex_fields::{Bytes, Items, Out, Text, put_fields};
 use msgs_share::{NodeEndpoint, ShareFetchRequest, ShareTopic};
@@ -27,13 +30,14 @@ pub type FetchStage = Stage<Asking<FetchHand, Visiting, Option<FetchRow>>>;
 const MOST_BYTES: u32 = 16_777_216;
 
 /// What a ShareFetch keeps from visit to visit: the lock duration in milliseconds, how many records and bytes of
-/// batches are left to its reply, and whether no batch is in it yet.
+/// batches are left to its reply, whether no batch is in it yet, and what it waits for, until the first answer.
 #[derive(Drop)]
 pub struct FetchHand {
     lock_ms: i32,
     records: u32,
     bytes: u32,
     first: bool,
+    wish: Option<WaitWish>,
 }
 
 // How many are left of so many records, once the offsets of a grant are taken.
@@ -89,6 +93,13 @@ impl FetchHand {
         }
     }
 
+    /// What it waits for before its first visit, if it waits.
+    pub fn wish(&self) -> Option<&WaitWish>
+        ensures { option_copied result ≡ waits_for self.now }
+    {
+        self.wish.as_ref()
+    }
+
     // What an answer leaves to the visits behind it.
     fn count(&mut self, answer: &VisitAnswer)
         ensures { self.new ≡ hand_after self.old answer.now }
@@ -96,6 +107,7 @@ impl FetchHand {
         self.records = left_after(self.records, answer.grants.as_slice());
         self.bytes = bytes_after(self.bytes, answer.batches.as_slice());
         self.first = self.first && answer.batches.as_slice().is_empty();
+        self.wish = None;
     }
 }
 
@@ -216,9 +228,12 @@ fn fetch_stage(
     steps: VisitPlan,
     closed: VisitPlan,
 ) -> Result<FetchStage, NoMemory>
-    ensures { IfOk result (λ stage. stage ≡ stage_of fetch_acts (fetch_hand conf.now request.now) (map untold released.items
-        ++ (map (told conf.now.topics) steps.items ++ (map untold closed.items ++ map known (unhosted conf.now.topics request.now)))) []) }
+    ensures { IfOk result (λ stage. stage ≡ stage_of fetch_acts
+        (fetch_hand conf.now request.now (wish_of request.now steps.items))
+        (map untold released.items ++ (map (told conf.now.topics) steps.items
+        ++ (map untold closed.items ++ map known (unhosted conf.now.topics request.now)))) []) }
 {
+    let wish = wish_of(alloc, request, &steps)?;
     let mut left = VecDeque::new(alloc);
     push_untold(alloc, released, &mut left)?;
     push_told(alloc, conf, steps, &mut left)?;
@@ -229,6 +244,7 @@ fn fetch_stage(
         records: at_least_0(request.max_records),
         bytes: at_least_0(request.max_bytes).min(MOST_BYTES),
         first: true,
+        wish,
     };
     go_on(alloc, hand, left, VecDeque::new(alloc))
 }

@@ -6,6 +6,7 @@ ghost use Rattle.share_calls.specs.Partitions.{partition_of};
 ghost use Rattle.share_calls.specs.FetchTalks.{TellsByItsVisit};
 ghost use Rattle.share_calls.specs.AckTalks.{TellsByItsAck};
 ghost use Rattle.share_calls.specs.TopicRows.{HasOneOfEachTopic};
+ghost use Rattle.share_calls.specs.Wishes.{AcquiresInWhatIsTold};
 ghost use Rattle.share_calls.specs.Heartbeats.{TellsItsHeartbeat};
 ghost use Rattle.msgs_share.specs.declared.share_fetch_reply.FetchedPartition.{FetchedPartition};
 
@@ -37,4 +38,9 @@ pub fn a_heartbeat_is_told_by_its_own_answer()
 /// elements stand in the order of their first rows.
 pub fn each_topic_has_one_element()
     ensures { HasOneOfEachTopic FetchedPartition }
+{}
+
+/// A fetch acquires by visits alone that its reply tells, and by none where it closes its session.
+pub fn a_fetch_acquires_in_what_is_told()
+    ensures { AcquiresInWhatIsTold }
 {}

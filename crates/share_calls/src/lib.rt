@@ -16,6 +16,7 @@ mod kept_step;
 mod law;
 mod partition;
 mod visiting;
+mod wish;
 
 pub use ack_rows::TopicShape;
 pub use acknowledge::{AckHand, AckStage, ack_call};
@@ -25,9 +26,11 @@ pub use fetched_row::FetchedRow;
 pub use heartbeat::{HeartbeatHand, HeartbeatStage, heartbeat_call};
 pub use kept_step::KeptStep;
 pub use law::{
-    a_heartbeat_is_told_by_its_own_answer, each_acknowledged_partition_is_told_by_its_own_visit,
+    a_fetch_acquires_in_what_is_told, a_heartbeat_is_told_by_its_own_answer,
+    each_acknowledged_partition_is_told_by_its_own_visit,
     each_fetched_partition_is_told_by_its_own_visit, each_shard_is_told_by_its_partition,
     each_topic_has_one_element,
 };
 pub use partition::PartitionId;
 pub use visiting::Visiting;
+pub use wish::{ShardList, WaitWish};

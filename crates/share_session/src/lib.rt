@@ -20,6 +20,7 @@ pub use fault::SessionFault;
 pub use law::{a_member_has_one_session, a_partition_joins_once, each_partition_is_visited_once};
 pub use plan::next_epoch;
 pub use planned::Planned;
+pub use repeats::has_batches;
 pub use session::Session;
 pub use sessions::Sessions;
 pub use step::{PlanStep, Purpose, VisitPlan};

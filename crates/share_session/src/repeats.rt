@@ -52,7 +52,7 @@ fn has_batches_in(topic: &ShareTopic<SharePartition>) -> bool
         .any(|p| !p.acknowledgement_batches.as_slice().is_empty())
 }
 
-/// Whether there is an acknowledgement batch.
+/// Whether there is an acknowledgement batch, for a hosted partition or another.
 pub fn has_batches(topics: &[ShareTopic<SharePartition>]) -> bool
     ensures { result ≡ has_batches topics.now }
 {
