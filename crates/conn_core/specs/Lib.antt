@@ -10,6 +10,7 @@ pub mod Judging
 pub mod Conns
 pub mod Seen
 pub mod Turning
+pub mod Wishes
 pub mod Talking
 pub mod Streams
 pub mod Requests

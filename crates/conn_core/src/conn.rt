@@ -7,6 +7,8 @@ ghost use Rattle.conn_core.specs.Stream.{front_of, behind_frame, frame_at};
 ghost use Rattle.conn_core.specs.Judging.{HasRoomFor};
 ghost use Rattle.conn_core.specs.Conns.{new_conn, conn_after_bytes, conn_after_end, conn_after_reply, without_replies, taken_up, has_no_release, is_gone};
 ghost use Rattle.conn_core.specs.Hands.{hand_part};
+ghost use Rattle.conn_core.specs.Wishes.{conn_wish};
+ghost use Rattle.std.specs.Option.{option_copied};
 ghost use Rattle.conn_core.specs.Turning.{Tells, Waits, Awaits, FitsIn, awaited_part, turn, closing_turn, reply_turn, request_turn, verdict_turn, front_turn};
 ghost use Rattle.conn_core.specs.Turning.{next_release, conn_with_reply, conn_at_stage, conn_after_answer};
 
@@ -20,6 +22,7 @@ use crate::stream::{Front, Stream, front_of};
 use crate::work::Work;
 use call_fold::{Part, PartAnswer, Stage};
 use flex_fields::Items;
+use share_calls::WaitWish;
 use share_model::{AckList, Blob, CloseCause, NoMemory, Then, Visit};
 use share_session::{SessionChange, Sessions};
 use std::alloc::Global;
@@ -412,6 +415,17 @@ impl Conn {
                 self.end();
                 Err(NoMemory)
             }
+        }
+    }
+
+    /// For what the request in hand waits before its first part, until that has its answer. `None` where it doesn't
+    /// wait, or no request is in hand. Its part may be asked all the same.
+    pub fn wait_wish(&self) -> Option<&WaitWish>
+        ensures wish { option_copied result ≡ conn_wish self.now }
+    {
+        match &self.work {
+            Work::Busy { hand, .. } => hand.wish(),
+            Work::Free | Work::Overlong | Work::Closing => None,
         }
     }
 

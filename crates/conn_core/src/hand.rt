@@ -5,6 +5,8 @@ ghost use Rattle.call_fold.specs.Calls.{question_part};
 ghost use Rattle.call_fold.specs.Going.{stage_after};
 ghost use Rattle.call_fold.specs.declared.call.Stage.{Stage};
 ghost use Rattle.conn_core.specs.Hands.{hand_part, hand_stage, hand_stage_after};
+ghost use Rattle.conn_core.specs.Wishes.{hand_wish};
+ghost use Rattle.std.specs.Option.{option_copied};
 
 use crate::kept::Kept;
 use call_fold::{Asking, Call, Part, PartAnswer, Stage, part_of, take};
@@ -13,7 +15,7 @@ use msgs_base::{DeleteRecordsPartitionResult, ProducePartitionReply};
 use msgs_group::{HeartbeatReply, HeartbeatRequest};
 use msgs_share::AcknowledgedPartition;
 use msgs_state::{PartitionResult, ReadPartitionResult};
-use share_calls::{AckHand, FetchHand, FetchRow, HeartbeatHand, Visiting};
+use share_calls::{AckHand, FetchHand, FetchRow, HeartbeatHand, Visiting, WaitWish};
 use share_model::NoMemory;
 use state_calls::{
     Beginning, Delete, Deleting, Initialize, Question, Read, Reading, StateHand, Write, Writing,
@@ -183,6 +185,23 @@ fn next_under_name<A: Named>(
 }
 
 impl Hand {
+    /// For what it waits before its first part, if it waits.
+    pub fn wish(&self) -> Option<&WaitWish>
+        ensures { option_copied result ≡ hand_wish self.now }
+    {
+        match self {
+            Hand::Fetch(asking) => asking.get().call().wish(),
+            Hand::Produce(_)
+            | Hand::DeleteRecords(_)
+            | Hand::Acknowledge(_)
+            | Hand::Heartbeat(_)
+            | Hand::Initialize(_)
+            | Hand::Read(_)
+            | Hand::Write(_)
+            | Hand::Delete(_) => None,
+        }
+    }
+
     /// The part that is asked.
     pub fn part(&self, alloc: Global) -> Result<Part, NoMemory>
         ensures { IfOk result (λ part. part ≡ hand_part self.now) }

@@ -22,6 +22,8 @@ pub use call_fold::{Looked, Part, PartAnswer, Produced};
 pub use conn::Conn;
 pub use law::{
     connections_ask_hosted_shards, connections_depend_on_the_stream,
-    each_request_is_taken_for_what_it_says, requests_keep_to_their_talk,
+    connections_wait_before_the_first_answer, each_request_is_taken_for_what_it_says,
+    requests_keep_to_their_talk,
 };
 pub use next::Next;
+pub use share_calls::{ShardList, WaitWish};

@@ -6,6 +6,7 @@ use crate::parts::Parts;
 use crate::runs::StoredRuns;
 use crate::stores::Stores;
 use crate::texts::Texts;
+use crate::waits::Waits;
 use crate::windows::Windows;
 use row_text::{Rows, Taken, compared, shortened};
 use std::alloc::Global;
@@ -20,6 +21,7 @@ enum Layer {
     Windows,
     Runs,
     Parts,
+    Waits,
     Texts,
 }
 
@@ -33,6 +35,7 @@ pub struct Case {
     windows: Windows,
     runs: StoredRuns,
     parts: Parts,
+    waits: Waits,
     texts: Texts,
 }
 
@@ -45,6 +48,7 @@ fn layer_of(name: &str) -> Option<Layer> {
         "windows" => Some(Layer::Windows),
         "runs" => Some(Layer::Runs),
         "parts" => Some(Layer::Parts),
+        "waits" => Some(Layer::Waits),
         "texts" => Some(Layer::Texts),
         _ => None,
     }
@@ -69,6 +73,7 @@ impl Case {
             windows: Windows::new(alloc),
             runs: StoredRuns::new(alloc),
             parts: Parts::None,
+            waits: Waits::new(alloc),
             texts: Texts::new(alloc),
         })
     }
@@ -95,6 +100,7 @@ impl Case {
             Layer::Windows => self.windows.told(alloc, kind, words),
             Layer::Runs => self.runs.told(alloc, kind, words),
             Layer::Parts => self.parts.told(alloc, kind, words),
+            Layer::Waits => self.waits.told(alloc, kind, words),
             Layer::Texts => self.texts.told(alloc, kind, words),
         }
     }
@@ -108,6 +114,7 @@ impl Rows for Case {
         self.windows.set(Windows::new(alloc));
         self.runs.set(StoredRuns::new(alloc));
         self.parts.set(Parts::None);
+        self.waits.set(Waits::new(alloc));
         self.texts.set(Texts::new(alloc));
         self.formats.begin(alloc)
     }

@@ -1,8 +1,9 @@
 //! Worked examples of the lower layers: formats, stores on disks in memory, what adapters ask of the system, links
-//! and clocks in memory, windows, runs, and texts.
+//! and clocks in memory, windows, runs, waits, and texts.
 //!
 //! A line `layer NAME` before the cases of a file says which they are about: `formats`, `stores`, `adapters`,
-//! `links`, `windows`, `runs`, `parts` or `texts`. The head of the file with that name in `src/` says which lines there are.
+//! `links`, `windows`, `runs`, `parts`, `waits` or `texts`. The head of the file with that name in `src/` says which
+//! lines there are.
 #![tactic(auto)]
 
 mod acks;
@@ -27,6 +28,7 @@ mod stores;
 mod streams;
 mod texts;
 mod values;
+mod waits;
 mod windows;
 
 use case::Case;

@@ -15,7 +15,7 @@ use topic_conf::{Config, Topic, TopicList, Versions};
 use uuid::Uuid;
 
 /// The topic of 64 partitions.
-fn hosted(alloc: Global) -> io::Result<Option<Config>> {
+pub fn hosted(alloc: Global) -> io::Result<Option<Config>> {
     let (Some(name), Some(host)) = (Name::new("t"), Name::new("localhost")) else {
         return Ok(None);
     };
