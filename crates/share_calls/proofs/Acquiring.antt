@@ -48,7 +48,7 @@ module _ (caller : Caller) where
     opening_told : (forgotten : List ℕ) → ToldAlone (opening caller session wanted forgotten)
     opening_told forgotten =
         let told = (opening caller session wanted forgotten).told in
-        past_releases (partitions_of session) (told ++ []) ∙ ap (filter acquires) (append-nil told)
+        ap (filter acquires) (append-nil (map (release caller) (partitions_of session) ++ told)) ∙ past_releases (partitions_of session) told
 
     fetching_told : (epoch : ℤ) (forgotten : List ℕ) → ToldAlone (fetching caller session epoch wanted forgotten)
     fetching_told epoch forgotten = ap (filter acquires) (append-nil (fetching caller session epoch wanted forgotten).told)
