@@ -1,9 +1,8 @@
 -- A fetch waits before its first answer alone.
-use Rattle.std.proofs.Common.{◌≡◌, ◌∙◌, ℕ, ℤ, Bool, true, false, List, [], ◌∷◌, ◌++◌, map, filter, find, Option, Some, None, refl, sym, ap, if◌then◌else◌}
+use Rattle.std.proofs.Common.{◌≡◌, ◌∙◌, ℤ, Bool, true, false, List, [], ◌∷◌, ◌++◌, map, filter, find, Option, Some, None, refl, sym, ap, if◌then◌else◌}
 use Rattle.std.specs.Option.{option_map}
 use Rattle.share_model.specs.declared.fault.Code.{Code}
 use Rattle.topic_conf.specs.Configs.{ConfigParts}
-use Rattle.topic_conf.specs.declared.topic.Topic.{Topic}
 use Rattle.msgs_share.specs.declared.share_fetch_request.ShareFetchRequest.{ShareFetchRequest}
 use Rattle.call_fold.specs.declared.part.PartAnswer.{PartAnswer}
 use Rattle.call_fold.specs.Parts.{visit_answer}
@@ -12,7 +11,7 @@ use Rattle.call_fold.specs.declared.call.Entry.TheVariants.{Known, Ask}
 use Rattle.call_fold.specs.declared.call.Stage.{Stage}
 use Rattle.call_fold.specs.declared.call.Stage.TheVariants.{Asks, Says}
 use Rattle.call_fold.specs.Calls.{AskingParts}
-use Rattle.call_fold.specs.Going.{stage_of, stage_after}
+use Rattle.call_fold.specs.Going.{stage_of}
 use Rattle.share_session.specs.declared.step.PlanStep.{PlanStep}
 use Rattle.share_session.specs.declared.fault.SessionFault.{SessionFault}
 use Rattle.share_session.specs.SessionParts.{SessionParts}
@@ -22,10 +21,9 @@ use Rattle.share_calls.specs.declared.fetch.FetchHand.{FetchHand}
 use Rattle.share_calls.specs.declared.fetch_rows.FetchRow.{FetchRow}
 use Rattle.share_calls.specs.declared.visiting.Visiting.{Visiting}
 use Rattle.share_calls.specs.declared.wish.WaitWish.{WaitWish}
-use Rattle.share_calls.specs.Fetch.{fetch_acts, fetch_hand, fetch_entries, row_for, waits_for, hand_after, told, known, unhosted, refused_with, fetch_begins_by}
+use Rattle.share_calls.specs.Fetch.{fetch_acts, fetch_hand, row_for, waits_for, hand_after, told, known, unhosted, refused_with, fetch_begins_by}
 use Rattle.share_calls.specs.Visits.{untold}
 use Rattle.share_calls.specs.Wishes.{may_wait, wish_at, wish_of, acquires, fetch_wish_by}
-use Rattle.conn_core.specs.declared.begun.Begun.{Begun}
 use Rattle.conn_core.specs.declared.hand.Hand.{Hand}
 use Rattle.conn_core.specs.declared.hand.Hand.TheVariants.{Produce, DeleteRecords, Fetch, Acknowledge, Heartbeat, Initialize, Read, Write, Delete}
 use Rattle.conn_core.specs.declared.sending.ReplyFrame.{ReplyFrame}
@@ -34,7 +32,7 @@ use Rattle.conn_core.specs.declared.work.Work.{Work}
 use Rattle.conn_core.specs.declared.work.Work.TheVariants.{Free, Busy, Overlong, Closing}
 use Rattle.conn_core.specs.Frames.{reply_frame}
 use Rattle.conn_core.specs.Hands.{hand_stage, hand_stage_after}
-use Rattle.conn_core.specs.Conns.{ConnParts, conn_after_end, conn_after_end_at, taken_up}
+use Rattle.conn_core.specs.Conns.{ConnParts, conn_after_end_at, taken_up}
 use Rattle.conn_core.specs.Turning.{reply_turn, stage_turn, conn_with_reply, conn_at_stage, conn_after_answer_at}
 use Rattle.conn_core.specs.Wishes.{hand_wish, stage_wish, work_wish, conn_wish, WaitsBeforeItsFirstAnswer}
 

@@ -1,8 +1,6 @@
 -- The visits of a fetch that acquire are told.
-use Rattle.std.proofs.Common.{◌≡◌, ◌∙◌, ℕ, ℤ, negsuc, Bool, true, false, List, [], ◌∷◌, ◌++◌, map, filter, Option, refl, sym, ap, append-nil, if◌then◌else◌}
+use Rattle.std.proofs.Common.{◌≡◌, ◌∙◌, ℕ, ℤ, Bool, true, false, List, [], ◌∷◌, ◌++◌, map, filter, Option, refl, sym, ap, append-nil, if◌then◌else◌}
 use Rattle.share_model.specs.declared.ack.AckBatch.{AckBatch}
-use Rattle.topic_conf.specs.declared.topic.Topic.{Topic}
-use Rattle.msgs_share.specs.declared.share_fetch_request.ShareFetchRequest.{ShareFetchRequest}
 use Rattle.share_session.specs.declared.step.Caller.{Caller}
 use Rattle.share_session.specs.declared.step.Purpose.TheVariants.{Release}
 use Rattle.share_session.specs.declared.step.PlanStep.{PlanStep}
@@ -11,7 +9,7 @@ use Rattle.share_session.specs.SessionParts.{SessionParts}
 use Rattle.share_session.specs.Sessions.{session_of}
 use Rattle.share_session.specs.Requests.{text_of, wanted_in, forgotten_in}
 use Rattle.share_session.specs.Refusals.{opens, closes}
-use Rattle.share_session.specs.Plans.{visit, release, shards_of, visit_list, partitions_of, without_shards, fetch_visits, opening, fetching, closing, fetch_by_epoch, caller_of, steps_of}
+use Rattle.share_session.specs.Plans.{visit, release, shards_of, partitions_of, without_shards, opening, fetching, closing, fetch_by_epoch, caller_of, steps_of}
 use Rattle.share_calls.specs.Wishes.{acquires, AcquiresInWhatIsTold}
 
 abbrev Wanted : Type 0
