@@ -8,6 +8,8 @@
 //
 // Of a ShareFetch becomes `asks` or `replies`. What is waited for is `GROUP at SHARD ..` and the milliseconds, or
 // `no wait`.
+ghost use Rattle.call_fold.specs.Parts.{IsVisitAnswer};
+
 use crate::plain::word;
 use crate::sessions::hosted;
 use call_fold::{Part, PartAnswer};
@@ -36,7 +38,9 @@ fn fetch_frame(alloc: Global, body: &[u8]) -> io::Result<Vec<u8>> {
 }
 
 /// A visit that gave nothing.
-fn nothing(alloc: Global) -> PartAnswer {
+fn nothing(alloc: Global) -> PartAnswer
+    ensures { IsVisitAnswer result }
+{
     PartAnswer::Visit(VisitAnswer {
         ack: AckOutcome::Done,
         then: ThenOutcome::Done,
@@ -86,13 +90,16 @@ fn next_text(alloc: Global, conf: &Config, conn: &mut Conn) -> io::Result<String
 
 /// The visit that a connection asks gives nothing. Whether it asked one, and took the answer.
 fn answer(alloc: Global, conf: &Config, conn: &mut Conn) -> bool {
-    let Ok(Next::Ask(part)) = conn.next_part(conf) else {
+    let Ok(next) = conn.next_part(conf) else {
         return false;
     };
-    match part {
-        Part::Visit { .. } => conn.give(conf, nothing(alloc)).is_ok(),
-        _ => false,
-    }
+    let Next::Ask(part) = next else {
+        return false;
+    };
+    let Part::Visit { .. } = part else {
+        return false;
+    };
+    conn.give(conf, nothing(alloc)).is_ok()
 }
 
 impl Waits {
