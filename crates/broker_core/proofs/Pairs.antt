@@ -11,6 +11,7 @@ use Rattle.broker_model.specs.Machine.{StandForStates}
 use Rattle.broker_core.specs.declared.fault.CoreOpen.{CoreOpen}
 use Rattle.broker_core.specs.declared.fault.CoreOpen.TheVariants.{Damaged, Device, Bay, NoMemory}
 use Rattle.broker_core.specs.declared.slot.ForeignSlot.TheVariants as foreign
+use Rattle.broker_core.specs.Carried.{AreFreshStates}
 use Rattle.broker_core.specs.Hosts.{AreDistinct}
 use Rattle.edge_io.specs.Armed.{RunsOn}
 use Rattle.broker_core.specs.Restarts.{ImagesStandAs, IsOpened, IsDamagedState}
@@ -52,8 +53,8 @@ module _ {B D : Type 0} (bay_seen : B → BayView D) (seen : D → DiskView) (fi
 
   pub taken_both : (old new : B) (store : StoreParts D) → GetsBoth old new → (seen first).faults ≤ (seen store.journal.first.disk).faults → (seen second).faults ≤ (seen store.journal.second.disk).faults
       → ((a b : List ℕ) → (seen first).content ≡ Some a → (seen second).content ≡ Some b → IsOpened seen first second a b store)
-      → TakesForeign bay_seen seen old (foreign.Open store) new
-  taken_both old new store gets on_first on_second opens =
+      → AreFreshStates seen store → TakesForeign bay_seen seen old (foreign.Open store) new
+  taken_both old new store gets on_first on_second opens fresh =
       let each = gets_each bay_seen seen both old new states_distinct gets in
       record {
         store = store;
@@ -67,6 +68,7 @@ module _ {B D : Type 0} (bay_seen : B → BayView D) (seen : D → DiskView) (fi
         first_counted = on_first;
         second_counted = on_second;
         opens = opens;
+        fresh = fresh;
         first_out = each.0.is_out;
         second_out = each.1.0.is_out;
         others = λ m n k. gets_others bay_seen seen both old new gets m (n, (k, tt));

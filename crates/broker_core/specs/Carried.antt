@@ -1,7 +1,7 @@
 -- How a shard in memory and on its disks stands for the machine's, and what a call makes of both. This project's own.
 -- For example a store of no keys whose write of `g1` failed at its last sync stands for a shard of no keys with the state of `g1` pending,
 -- and a partition whose append of a batch failed so for one with that batch pending.
-use Rattle.std.specs.Prelude.{◌≡◌, ◌≤◌, ◌⊎◌, ℕ, List, false, is_some, if◌then◌else◌}
+use Rattle.std.specs.Prelude.{◌≡◌, ◌≤◌, ◌⊎◌, ℕ, List, None, false, is_some, if◌then◌else◌}
 use Rattle.std.specs.declared.option.Option.{Option}
 use Rattle.edge_io.specs.Disk.{IsTold}
 use Rattle.share_model.specs.Held.{Held}
@@ -46,6 +46,10 @@ pub record IsCarried {D : Type 0} (seen : D → DiskView)
   pub second_told : IsTold (seen store.journal.second.disk).content
   pub fed : (seen store.journal.first.disk).starved ≡ false
   pub second_fed : (seen store.journal.second.disk).starved ≡ false
+
+-- The states stand for what is in memory, whether their disks tell their contents or not: nothing is pending.
+abbrev pub AreFreshStates : {D : Type 0} → (D → DiskView) → StoreParts D → Type 0
+AreFreshStates seen store = CarriesForeign seen store (record { states = states_of store.entries; pending = None })
 
 -- what the first and the second disk have, by the name
 abbrev pub by_name : {A : Type 0} → A → A → List ℕ → A

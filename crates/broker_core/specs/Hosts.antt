@@ -40,7 +40,7 @@ use Rattle.broker_core.specs.declared.slot.PartState.{PartState}
 use Rattle.broker_core.specs.declared.slot.PartState.TheVariants as part
 use Rattle.broker_core.specs.declared.slot.PartSlot.{PartSlot}
 use Rattle.broker_core.specs.declared.hosts.Hosts.{Hosts}
-use Rattle.broker_core.specs.Carried.{GoesOn, HaltsPart, IsCarried, IsFresh, IsPartCarried, LeadsPart, OpenPart, PartGoesOn, facts_by, by_name, holding}
+use Rattle.broker_core.specs.Carried.{AreFreshStates, GoesOn, HaltsPart, IsCarried, IsFresh, IsPartCarried, LeadsPart, OpenPart, PartGoesOn, facts_by, by_name, holding}
 use Rattle.edge_io.specs.Views.{DiskView}
 
 -- the shards of the hosted partitions, in the order of their numbers; the members of all groups; foreign state
@@ -86,6 +86,12 @@ AreOpenParts slots = AllByRecursion (λ s. IsOpenState s.state) slots
 
 abbrev pub AreHeldParts : {D : Type 0} → List (PartSlot D) → Type 0
 AreHeldParts slots = AllByRecursion (λ s. IsHeldState s.state) slots
+
+-- foreign state is open, and as it was opened
+abbrev pub IsFreshForeign : {D : Type 0} → (D → DiskView) → ForeignSlot D → Type 0
+IsFreshForeign seen (foreign.Open store) = AreFreshStates seen store
+IsFreshForeign seen (foreign.Shut first second) = ⊥
+IsFreshForeign seen foreign.Gone = ⊥
 
 -- each shard is open, and as it was opened
 abbrev pub IsFreshState : {D : Type 0} → (D → DiskView) → PartState D → Type 0

@@ -17,7 +17,7 @@ use Rattle.broker_core.specs.declared.slot.ForeignSlot.TheVariants as foreign
 use Rattle.broker_core.specs.declared.slot.PartSlot.{PartSlot}
 use Rattle.broker_core.specs.declared.slot.PartState.TheVariants as part
 use Rattle.broker_core.specs.Bays.{AreFed, IsOfDevice, IsTakenFrom, StaysAs, TellsStill}
-use Rattle.broker_core.specs.Carried.{IsFresh, OpenPart}
+use Rattle.broker_core.specs.Carried.{AreFreshStates, IsFresh, OpenPart}
 use Rattle.broker_core.specs.Hosts.{HostsParts, NotIn, foreign_disks, hosted_slot, slots_disks}
 use Rattle.broker_core.specs.Restarts.{IsOpened, IsOpenedPart, IsDamagedPart, IsDamagedState, PartImagesStandAs, PartRunsOn, StandsForTables}
 use Rattle.edge_io.specs.Views.{DiskView, BayView}
@@ -153,6 +153,7 @@ pub record TakesForeign {B D : Type 0} (bay_seen : B → BayView D) (seen : D �
   pub second_counted : (seen second).faults ≤ (seen store.journal.second.disk).faults
   pub opens : (a b : List ℕ) → (seen first).content ≡ Some a → (seen second).content ≡ Some b
       → IsOpened seen first second a b store
+  pub fresh : AreFreshStates seen store
   pub first_out : (bay_seen new).out state_a ≡ true
   pub second_out : (bay_seen new).out state_b ≡ true
   pub others : (m : List ℕ) → m ≢ state_a → m ≢ state_b → SameSlot bay_seen m old new

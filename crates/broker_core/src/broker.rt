@@ -7,7 +7,7 @@ ghost use Rattle.topic_conf.specs.Topics.{IsTopicList, partitions};
 ghost use Rattle.broker_model.specs.Hosted.{IsOneOf, IsTaken};
 ghost use Rattle.broker_model.specs.Machine.{Machine};
 ghost use Rattle.broker_model.specs.Disks.{Disks};
-ghost use Rattle.broker_core.specs.Hosts.{AreApart, AreFresh, AreHeld, AreNamed, AreOpen, GoOn, OneRose, StaysHosted, all_names, disks_in, hosted_slots, parts_of};
+ghost use Rattle.broker_core.specs.Hosts.{AreApart, AreFresh, AreHeld, AreNamed, AreOpen, GoOn, IsFreshForeign, OneRose, StaysHosted, all_names, disks_in, hosted_slots, parts_of};
 ghost use Rattle.broker_core.specs.Restarts.{IsDamagedDisk};
 ghost use Rattle.broker_core.specs.Bays.{AreOut, ArePutBack, AreTakenFrom, HasLastCount, HasRisen, IsFirst, IsOfDevice, StandForAll, StaysAs, TellsDisks, TellsStill};
 ghost use Rattle.broker_core.specs.Taking.{RefusesAll, TakesAll, PutsAllBack};
@@ -200,8 +200,9 @@ impl<D: Disk + Drop> Core<D> {
             (m : Machine) × IsCore D.seen core m
             × IsFirst conf contents was (state_of D.seen m core)) }
         ensures open { IfOk result (λ core. AreOpen core.hosts × (core.conf ≡ conf)) }
-        // Each partition stands for what it has in memory, also on disks that don't tell their contents.
-        ensures fresh { IfOk result (λ core. AreFresh D.seen core.hosts.parts) }
+        // Each partition and foreign state stand for what they have in memory, also on disks that don't tell their
+        // contents.
+        ensures fresh { IfOk result (λ core. AreFresh D.seen core.hosts.parts × IsFreshForeign D.seen core.hosts.foreign) }
         ensures taken { IfOk result (λ core. AreOut B.seen (all_names (hosted_slots core.hosts.parts)) bay.new) }
         ensures counts { IfOk result (λ core. AreTakenFrom B.seen D.seen conf bay.old bay.new (disks_in core.hosts)) }
         ensures back { OnErr result (AreOut B.seen [] bay.new) }

@@ -9,7 +9,7 @@ ghost use Rattle.share_model.specs.ForeignRules.{ShareStates};
 ghost use Rattle.foreign_coord.specs.Shards.{ForeignShardState};
 ghost use Rattle.broker_model.specs.Machine.{StandForStates};
 ghost use Rattle.broker_core.specs.Bays.{IsOfDevice};
-ghost use Rattle.broker_core.specs.Carried.{IsCarried, LeadsForeign, HaltsForeign, GoesOn};
+ghost use Rattle.broker_core.specs.Carried.{AreFreshStates, IsCarried, LeadsForeign, HaltsForeign, GoesOn};
 ghost use Rattle.broker_core.specs.Restarts.{IsOpened, IsDamagedState, name_of, IsRestartedShard, IsNotRestarted, ImagesStandAs};
 
 use crate::fault::{CoreOpen, fault_of_call};
@@ -65,6 +65,7 @@ pub fn open<D: Disk>(
 ) -> Result<ForeignShard<D>, (D, D, CoreOpen)>
     ensures opens { IfOk result (λ shard. (a b : List ℕ) → (D.seen first).content ≡ Some a → (D.seen second).content ≡ Some b →
         IsOpened D.seen first second a b shard) }
+    ensures fresh { IfOk result (AreFreshStates D.seen) }
     // Contents that stand for states are opened, where memory is found and nothing is armed; and these states come.
     ensures recovers { (a b : List ℕ) (states : ShareStates) → (D.seen first).content ≡ Some a → (D.seen second).content ≡ Some b → StandForStates a b states →
         IfErr result (λ e. (name : List ℕ) (place : ℕ) → e.2 ≢ CoreOpen.Damaged name place) }

@@ -1,5 +1,5 @@
 -- Locks of partitions are closed one after another, and their disks put back.
-use Rattle.std.proofs.Common.{◌≡◌, inl, inr, refl, sym, ap, ◌∙◌, subst, ℕ, List, [], ◌∷◌, ◌++◌, append_assoc, append-nil, map, true}
+use Rattle.std.proofs.Common.{◌≡◌, inl, inr, refl, sym, ap, ◌∙◌, subst, ℕ, suc, List, [], ◌∷◌, ◌++◌, append_assoc, append-nil, length, map, true}
 use Rattle.std.proofs.lemmas.Grind.{flat_map-append}
 use Rattle.std.specs.List.{AllByRecursion, AllZip}
 use Rattle.std.specs.declared.option.Option.{Option}
@@ -23,9 +23,9 @@ use Rattle.broker_shards.specs.declared.members.MembersHost.{MembersHost}
 use Rattle.broker_shards.specs.declared.part.PartEvent.{PartEvent}
 use Rattle.broker_run.specs.Closing.{AreLeft, ArePut, Closes, LeavesPart}
 use Rattle.broker_run.specs.Opening.{AreWhole, hosted_in, hosts_of, names_in as names_of, slot_of}
-use Rattle.broker_run.specs.Rows.{Ends, StandsFor}
-use Rattle.broker_run.specs.Shared.{PartAnswer, ShardParts, SharedParts, first_shards}
-use Rattle.broker_run.proofs.Lines.{map_snoc, zip_snoc}
+use Rattle.broker_run.specs.Rows.{AreEnded, Ends, StandsAmong, StandsFor, foreign_in, members_in, parts_in}
+use Rattle.broker_run.specs.Shared.{PartAnswer, PassesParts, ShardParts, SharedParts, first_shards}
+use Rattle.broker_run.proofs.Lines.{ended_among, ended_more, ended_snoc, length_snoc, map_snoc}
 use Rattle.broker_run.proofs.Standing.{all_stand}
 use Rattle.broker_run.proofs.Moves.{leaves_foreign, leaves_part, same_hosted}
 
@@ -47,47 +47,68 @@ module _ {B D : Type 0} (bay_seen : B → BayView D) (seen : D → DiskView) whe
   abbrev pub hosted_by : List Lock → List Hosted
   hosted_by locks = hosted_slots (map made locks)
 
-  abbrev Closed : List Lock → List (Host D) → Type 0
-  Closed locks last = AllZip (Ends (ActsPart seen)) locks last
+  abbrev Closed : List Lock → List Pass → List (Host D) → Type 0
+  Closed locks passes last = AreEnded (ActsPart seen) locks passes last
 
-  -- Of these locks those in front of the rest are closed, and the disks behind them put back. The passes are of the rest.
-  pub record Closing (locks rest : List Lock) (passes : List Pass) (old now : B) : Type 0 where
+  -- Of these locks those in front of the rest are closed with the passes at their places, and the disks behind them put back.
+  pub record Closing (locks rest : List Lock) (given passes : List Pass) (old now : B) : Type 0 where
     pub done : List Lock
+    pub used : List Pass
     pub last : List (Host D)
     pub split : done ++ rest ≡ locks
-    pub ends : Closed done last
+    pub parted : used ++ passes ≡ given
+    pub many : length done ≡ length used
+    pub ends : Closed done used last
     pub puts : PutsAll bay_seen seen (slots_disks (map slot_of last)) old now
     pub seats : ℕ
     pub stand : AllZip (StandsFor seats) rest passes
     pub all : AllByRecursion (λ (l : Lock). l.seats ≡ seats) rest
 
-  pub closed_hosted : (locks : List Lock) (last : List (Host D)) → Closed locks last → hosted_slots (map slot_of last) ≡ hosted_by locks
-  closed_hosted [] [] z = refl
-  closed_hosted [] (h ∷ last) z = absurd z
-  closed_hosted (l ∷ locks) [] z = absurd z
-  closed_hosted (l ∷ locks) (h ∷ last) z =
-      λ i. same_hosted seen l.first z.0.pass.seen h z.0.leads i ∷ closed_hosted locks last z.1 i
+  pub closed_hosted : (locks : List Lock) (passes : List Pass) (last : List (Host D)) → Closed locks passes last
+      → hosted_slots (map slot_of last) ≡ hosted_by locks
+  closed_hosted [] passes last z = ap (λ (hs : List (Host D)). hosted_slots (map slot_of hs)) z
+  closed_hosted (l ∷ locks) [] last z = absurd z
+  closed_hosted (l ∷ locks) (p ∷ passes) [] z = absurd z
+  closed_hosted (l ∷ locks) (p ∷ passes) (h ∷ last) z =
+      λ i. same_hosted seen l.first p.seen h z.0.leads i ∷ closed_hosted locks passes last z.1 i
 
-  pub leaves_parts : (locks : List Lock) (last : List (Host D)) → Closed locks last → AllZip (LeavesPart seen) locks last
-  leaves_parts [] [] z = tt
-  leaves_parts [] (h ∷ last) z = absurd z
-  leaves_parts (l ∷ locks) [] z = absurd z
-  leaves_parts (l ∷ locks) (h ∷ last) z = (leaves_part seen l h z.0, leaves_parts locks last z.1)
+  leaves_parts : (given : List Pass) (locks : List Lock) (last : List (Host D)) → AllZip (Ends (ActsPart seen) given) locks last
+      → AllZip (LeavesPart seen given) locks last
+  leaves_parts given [] [] z = tt
+  leaves_parts given [] (h ∷ last) z = absurd z
+  leaves_parts given (l ∷ locks) [] z = absurd z
+  leaves_parts given (l ∷ locks) (h ∷ last) z = (leaves_part seen given l h z.0, leaves_parts given locks last z.1)
 
   pub closing_first : (locks : List Lock) (passes : List Pass) (now : B) (seats : ℕ) → AllZip (StandsFor seats) locks passes
-      → AllByRecursion (λ (l : Lock). l.seats ≡ seats) locks → Closing locks locks passes now now
-  closing_first locks passes now seats stand all =
-      record { done = []; last = []; split = refl; ends = tt; puts = refl; seats = seats; stand = stand; all = all }
+      → AllByRecursion (λ (l : Lock). l.seats ≡ seats) locks → Closing locks locks passes passes now now
+  closing_first locks passes now seats stand all = record {
+    done = [];
+    used = [];
+    last = [];
+    split = refl;
+    parted = refl;
+    many = refl;
+    ends = refl;
+    puts = refl;
+    seats = seats;
+    stand = stand;
+    all = all;
+  }
 
-  pub closing_all : (locks rest : List Lock) (passes : List Pass) (old now : B) → Closing locks rest passes old now → rest ≡ []
-      → (last : List (Host D)) × Closed locks last × PutsAll bay_seen seen (slots_disks (map slot_of last)) old now
-  closing_all locks rest passes old now c none = (
+  pub closing_all : (locks rest : List Lock) (given passes : List Pass) (old now : B) → Closing locks rest given passes old now → rest ≡ []
+      → (last : List (Host D)) × Closed locks given last × PutsAll bay_seen seen (slots_disks (map slot_of last)) old now
+  closing_all locks rest given passes old now c none = (
     c.last,
-    subst (λ (l : List Lock). Closed l c.last) (sym (append-nil c.done) ∙ ap (λ (l : List Lock). c.done ++ l) (sym none) ∙ c.split) c.ends,
+    subst (λ (x : List Lock × List Pass). Closed x.0 x.1 c.last) (λ i. (whole i, c.parted i))
+        (ended_more (ActsPart seen) c.done c.used passes c.last c.ends),
     c.puts,
   )
+    where
+      whole : c.done ≡ locks
+      whole = sym (append-nil c.done) ∙ ap (λ (l : List Lock). c.done ++ l) (sym none) ∙ c.split
 
-  module _ (locks rest more : List Lock) (passes others : List Pass) (lock : Lock) (pass : Pass) (old now : B) (c : Closing locks rest passes old now)
+  module _ (locks rest more : List Lock) (given passes others : List Pass) (lock : Lock) (pass : Pass) (old now : B)
+      (c : Closing locks rest given passes old now)
       (is : rest ≡ lock ∷ more) (has : passes ≡ pass ∷ others) where
     zipped : AllZip (StandsFor c.seats) (lock ∷ more) (pass ∷ others)
     zipped = subst (λ (x : List Lock × List Pass). AllZip (StandsFor c.seats) x.0 x.1) (λ i. (is i, has i)) c.stand
@@ -107,7 +128,7 @@ module _ {B D : Type 0} (bay_seen : B → BayView D) (seen : D → DiskView) whe
 
     same : hosted_slots (map slot_of c.last ++ map made rest) ≡ hosted_by locks
     same = map_then hosted_slot (map slot_of c.last) (map made rest)
-        ∙ ap (λ (l : List Hosted). l ++ hosted_by rest) (closed_hosted c.done c.last c.ends)
+        ∙ ap (λ (l : List Hosted). l ++ hosted_by rest) (closed_hosted c.done c.used c.last c.ends)
         ∙ sym (map_then hosted_slot (map made c.done) (map made rest))
         ∙ ap hosted_slots (sym (map_then made c.done rest))
         ∙ ap hosted_by c.split
@@ -138,12 +159,15 @@ module _ {B D : Type 0} (bay_seen : B → BayView D) (seen : D → DiskView) whe
           (subst (λ (l : List Hosted). (m : List ℕ) → IsOneOf (part_disks l) m → (bay_seen old).out m ≡ true) (sym same) out))
 
       pub closing_on : (new : B) → Account lock.seats (passes_of pass) pass.seen → PutsAll bay_seen seen (slot_disks (slot_of last)) now new
-          → Closing locks more others old new
+          → Closing locks more given others old new
       closing_on new account put = record {
         done = c.done ++ lock ∷ [];
+        used = c.used ++ pass ∷ [];
         last = c.last ++ last ∷ [];
         split = append_assoc c.done (lock ∷ []) more ∙ ap (λ (l : List Lock). c.done ++ l) (sym is) ∙ c.split;
-        ends = zip_snoc (Ends (ActsPart seen)) c.done c.last lock last c.ends (record { pass = pass; leads = leads; account = account });
+        parted = append_assoc c.used (pass ∷ []) others ∙ ap (λ (l : List Pass). c.used ++ l) (sym has) ∙ c.parted;
+        many = length_snoc c.done lock ∙ ap suc c.many ∙ sym (length_snoc c.used pass);
+        ends = ended_snoc (ActsPart seen) c.done c.used c.last lock pass last c.many c.ends (record { leads = leads; account = account });
         puts = subst (λ (es : List (List ℕ × Option D)). PutsAll bay_seen seen es old new)
             (sym (ap slots_disks (map_snoc slot_of c.last last) ∙ flat_map-append slot_disks (map slot_of c.last) (slot_of last ∷ [])))
             (puts_then bay_seen seen (slots_disks (map slot_of c.last)) (slot_disks (slot_of last)) old now new c.puts put);
@@ -172,10 +196,10 @@ module _ {B D : Type 0} (bay_seen : B → BayView D) (seen : D → DiskView) whe
   hosted_firsts [] = refl
   hosted_firsts (l ∷ locks) = ap (λ (hosted : List Hosted). hosted_slot (made l) ∷ hosted) (hosted_firsts locks)
 
-  module _ (shared : SharedParts D) (whole : AreWhole shared.conf (first_shards shared)) (last : List (Host D)) (closed : Closed shared.parts last)
-      (old mid : B) (puts : PutsAll bay_seen seen (slots_disks (map slot_of last)) old mid) where
+  module _ (shared : SharedParts D) (whole : AreWhole shared.conf (first_shards shared)) (passes : List Pass) (last : List (Host D))
+      (closed : Closed shared.parts passes last) (old mid : B) (puts : PutsAll bay_seen seen (slots_disks (map slot_of last)) old mid) where
     hosted_last : hosted_slots (map slot_of last) ≡ hosted_in (first_shards shared)
-    hosted_last = closed_hosted shared.parts last closed ∙ sym (hosted_firsts shared.parts)
+    hosted_last = closed_hosted shared.parts passes last closed ∙ sym (hosted_firsts shared.parts)
 
     apart_last : AreDistinct (all_names (hosted_slots (map slot_of last)))
     apart_last = subst (λ (l : List Hosted). AreDistinct (all_names l)) (sym hosted_last) whole.apart
@@ -195,20 +219,22 @@ module _ {B D : Type 0} (bay_seen : B → BayView D) (seen : D → DiskView) whe
     second_out out = stays_out state_b (no_state_b (hosted_slots (map slot_of last)) apart_last)
         ∙ out state_b (one_in_rest (part_disks (hosted_in (first_shards shared))) (state_a ∷ state_b ∷ []) state_b (inr (inl refl)))
 
-    pub closes_all : (new : B) (members : MembersHost) (foreign : ForeignHost D) → Ends ActsMembers shared.members members
-        → Ends (ActsForeign seen) shared.foreign foreign → PutsForeignBack bay_seen seen (foreign_slot.Open foreign.foreign) mid new
-        → Closes bay_seen seen shared old new
-    closes_all new members foreign member_ends foreign_ends back =
+    pub closes_all : (rows : List (PassesParts D)) (n : ℕ) (new : B) (members : MembersHost) (foreign : ForeignHost D)
+        → AllZip (StandsAmong (parts_in rows) n) shared.parts passes → Ends ActsMembers (members_in rows) shared.members members
+        → Ends (ActsForeign seen) (foreign_in rows) shared.foreign foreign
+        → PutsForeignBack bay_seen seen (foreign_slot.Open foreign.foreign) mid new → Closes bay_seen seen shared rows old new
+    closes_all rows n new members foreign among member_ends foreign_ends back =
         let all : ShardParts D = record { parts = last; members = members; foreign = foreign } in
-        let left : AreLeft seen shared all = record {
-          parts = leaves_parts shared.parts last closed;
+        let ends = ended_among (ActsPart seen) (parts_in rows) n shared.parts passes last closed among in
+        let left : AreLeft seen rows shared all = record {
+          parts = leaves_parts (parts_in rows) shared.parts last ends;
           members = member_ends;
-          foreign = leaves_foreign seen shared.foreign foreign foreign_ends;
+          foreign = leaves_foreign seen (foreign_in rows) shared.foreign foreign foreign_ends;
         } in
         record {
           last = all;
           hosts = hosted_last;
           left = left;
-          stand = λ s k. all_stand seen shared all left s k;
+          stand = λ s k. all_stand seen rows shared all left s k;
           put = put_all shared.conf all old new apart_last (hosted_last ∙ whole.hosts) (mid, puts, back);
         }

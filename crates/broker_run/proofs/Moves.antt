@@ -4,7 +4,7 @@ use Rattle.edge_io.specs.Views.{DiskView}
 use Rattle.foreign_coord.specs.Shards.{ForeignShardState, Carries as CarriesForeign}
 use Rattle.share_part.specs.Shards.{PartShardState, Carries}
 use Rattle.shard_lock.specs.History.{Leads}
-use Rattle.shard_lock.specs.Passes.{LockParts}
+use Rattle.shard_lock.specs.Passes.{LockParts, PassParts}
 use Rattle.shard_lock.specs.declared.shard.Entry.{Entry}
 use Rattle.broker_model.proofs.Ungranted.{carried_above}
 use Rattle.broker_core.specs.Hosts.{hosted_slot}
@@ -77,8 +77,9 @@ module _ {D : Type 0} (seen : D → DiskView) where
       let k = part_stays h es g l in
       λ i. record { topic = k.topic i; conf = k.conf i }
 
-  pub leaves_part : (lock : LockParts (Host D)) (last : Host D) → Ends (ActsPart seen) lock last → LeavesPart seen lock last
-  leaves_part lock last e =
+  pub leaves_part : (given : List (PassParts (Host D) PartEvent PartAnswer)) (lock : LockParts (Host D)) (last : Host D) → Ends (ActsPart seen) given lock last
+      → LeavesPart seen given lock last
+  leaves_part given lock last e =
       let k = part_stays lock.first e.pass.seen last e.leads in
       record {
         ends = e;
@@ -131,11 +132,13 @@ module _ {D : Type 0} (seen : D → DiskView) where
   states_told h (e ∷ es) g (m, a, more) =
       let r = states_told m es g more in (r.0 ∙ a.first.told, r.1 ∙ a.second.told)
 
-  pub leaves_foreign : (lock : LockParts (ForeignHost D)) (last : ForeignHost D) → Ends (ActsForeign seen) lock last → LeavesForeign seen lock last
-  leaves_foreign lock last e =
+  pub leaves_foreign : (given : List (PassParts (ForeignHost D) ForeignEvent StateAnswer)) (lock : LockParts (ForeignHost D)) (last : ForeignHost D)
+      → Ends (ActsForeign seen) given lock last → LeavesForeign seen given lock last
+  leaves_foreign given lock last e =
       let k = states_told lock.first e.pass.seen last e.leads in
       record {
         ends = e;
+        leads = λ s c. states_lead lock.first e.pass.seen last s e.leads c;
         stands = λ s c.
             let r = states_lead lock.first e.pass.seen last s e.leads c.carries in (
               r.0,

@@ -8,7 +8,7 @@ use Rattle.broker_model.specs.Machine.{Machine}
 use Rattle.broker_core.specs.Bays.{AreOut, AreTakenFrom, IsFirst, TellsDisks}
 use Rattle.broker_core.specs.Carried.{IsFresh}
 use Rattle.broker_core.specs.Cores.{CoreParts, IsCore, core_of, state_of}
-use Rattle.broker_core.specs.Hosts.{AreFresh, HostsParts, all_names, disks_in, hosted_slots}
+use Rattle.broker_core.specs.Hosts.{AreFresh, HostsParts, IsFreshForeign, all_names, disks_in, hosted_slots}
 use Rattle.broker_core.specs.declared.fault.CoreOpen.TheVariants as open_fault
 use Rattle.broker_shards.specs.Hosts.{Host}
 use Rattle.broker_run.specs.Opening.{AreWhole, IsOpening, IsRefused, hosts_of, slot_of}
@@ -31,13 +31,14 @@ module _ {B D : Type 0} (bay_seen : B → BayView D) (seen : D → DiskView) (co
       → ((contents : List ℕ → List ℕ) (was : Disks) → TellsDisks bay_seen seen conf old contents was → (m : Machine) × IsCore seen core m
       × IsFirst conf contents was (state_of seen m core))
       → AreOut bay_seen (all_names (hosted_slots core.hosts.parts)) new → AreTakenFrom bay_seen seen conf old new (disks_in core.hosts)
-      → AreWhole core.conf shards → AreFresh seen core.hosts.parts → IsOpening bay_seen seen conf old new shards
+      → AreWhole core.conf shards → AreFresh seen core.hosts.parts × IsFreshForeign seen core.hosts.foreign → IsOpening bay_seen seen conf old new shards
   opening_of core shards conf_is is opens taken counts whole fresh = record {
     opens = λ contents was tells.
         let o = opens contents was tells in
         subst (λ (h : HostsParts D). (m : Machine) × IsCore seen (core_of conf [] h) m × IsFirst conf contents was (state_of seen m (core_of conf [] h)))
         (sym is) (o.0, record { connections = o.2.opens.nobody; shards = o.1.shards }, o.2);
-    fresh = fresh_hosts seen shards.parts (subst (λ (h : HostsParts D). AreFresh seen h.parts) (sym is) fresh);
+    fresh = fresh_hosts seen shards.parts (subst (λ (h : HostsParts D). AreFresh seen h.parts) (sym is) fresh.0);
+    fresh_states = subst (λ (h : HostsParts D). IsFreshForeign seen h.foreign) (sym is) fresh.1;
     whole = subst (λ (c : ConfigParts). AreWhole c shards) conf_is whole;
     taken = subst (λ (h : HostsParts D). AreOut bay_seen (all_names (hosted_slots h.parts)) new) (sym is) taken;
     counts = subst (λ (h : HostsParts D). AreTakenFrom bay_seen seen conf old new (disks_in h)) (sym is) counts;

@@ -4,27 +4,30 @@ use Rattle.std.specs.List.{AllZip}
 use Rattle.edge_io.specs.Views.{DiskView}
 use Rattle.share_part.specs.Hosting.{PartConfParts}
 use Rattle.share_part.specs.Shards.{PartShardState}
-use Rattle.shard_lock.specs.Passes.{LockParts}
+use Rattle.shard_lock.specs.Passes.{LockParts, PassParts}
 use Rattle.broker_model.specs.Hosted.{Hosted, first_of, log_of, second_of}
 use Rattle.broker_model.specs.Shards.{HostedPart, Shards}
 use Rattle.broker_core.specs.Hosts.{AreCarried, IsPartSlot, PartStandsAlone, PartStill, PartsStill, hosted_slot, slots_disks}
 use Rattle.broker_shards.specs.Hosts.{Host}
+use Rattle.broker_shards.specs.declared.part.PartEvent.{PartEvent}
 use Rattle.broker_run.specs.Closing.{AreLeft, LeavesPart, PartsLead, StandBehind}
 use Rattle.broker_run.specs.Opening.{hosts_of, slot_of}
-use Rattle.broker_run.specs.Shared.{ShardParts, SharedParts, first_shards}
+use Rattle.broker_run.specs.Rows.{parts_in}
+use Rattle.broker_run.specs.Shared.{PartAnswer, PassesParts, ShardParts, SharedParts, first_shards}
 
 module _ {D : Type 0} (seen : D → DiskView) where
-  parts_stand : (locks : List (LockParts (Host D))) (last : List (Host D)) (left : AllZip (LeavesPart seen) locks last) (ps : List HostedPart)
+  parts_stand : (given : List (PassParts (Host D) PartEvent PartAnswer)) (locks : List (LockParts (Host D))) (last : List (Host D))
+      (left : AllZip (LeavesPart seen given) locks last) (ps : List HostedPart)
       → AllZip (IsPartSlot seen) (map slot_of (map (λ l. l.first) locks)) ps
-      → (qs : List HostedPart) × PartsLead seen locks last left ps qs × PartsStill seen (slots_disks (map slot_of last)) qs
-  parts_stand [] [] left [] k = ([], tt, tt)
-  parts_stand [] [] left (p ∷ ps) k = absurd k
-  parts_stand [] (h ∷ last) left ps k = absurd left
-  parts_stand (l ∷ locks) [] left ps k = absurd left
-  parts_stand (l ∷ locks) (h ∷ last) left [] k = absurd k
-  parts_stand (l ∷ locks) (h ∷ last) left (p ∷ ps) k =
+      → (qs : List HostedPart) × PartsLead seen given locks last left ps qs × PartsStill seen (slots_disks (map slot_of last)) qs
+  parts_stand given [] [] left [] k = ([], tt, tt)
+  parts_stand given [] [] left (p ∷ ps) k = absurd k
+  parts_stand given [] (h ∷ last) left ps k = absurd left
+  parts_stand given (l ∷ locks) [] left ps k = absurd left
+  parts_stand given (l ∷ locks) (h ∷ last) left [] k = absurd k
+  parts_stand given (l ∷ locks) (h ∷ last) left (p ∷ ps) k =
       let one = left.0.stands p.shard k.0.state in
-      let rest = parts_stand locks last left.1 ps k.1 in
+      let rest = parts_stand given locks last left.1 ps k.1 in
       (record { hosted = p.hosted; shard = one.0 } ∷ rest.0, (refl, one.1, rest.1), (still one.0 one.2, rest.2))
     where
       is : hosted_slot (slot_of h) ≡ p.hosted
@@ -44,10 +47,10 @@ module _ {D : Type 0} (seen : D → DiskView) where
             (sym (ap (λ (x : Hosted). x.conf) k.0.hosted)) alone;
       }
 
-  pub all_stand : (shared : SharedParts D) (last : ShardParts D) (left : AreLeft seen shared last) (s : Shards) → AreCarried seen (hosts_of (first_shards shared)) s
-      → StandBehind seen shared last left s
-  all_stand shared last left s k =
-      let p = parts_stand shared.parts last.parts left.parts s.parts k.parts in
+  pub all_stand : (rows : List (PassesParts D)) (shared : SharedParts D) (last : ShardParts D) (left : AreLeft seen rows shared last) (s : Shards)
+      → AreCarried seen (hosts_of (first_shards shared)) s → StandBehind seen rows shared last left s
+  all_stand rows shared last left s k =
+      let p = parts_stand (parts_in rows) shared.parts last.parts left.parts s.parts k.parts in
       let f = left.foreign.stands s.foreign k.foreign in
       record {
         after = record { parts = p.0; members = last.members.members; foreign = f.0 };

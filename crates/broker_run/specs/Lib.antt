@@ -7,5 +7,6 @@ pub mod Acting
 pub mod Telling
 pub mod Serving
 pub mod Expiring
+pub mod Working
 pub mod Homes
 pub mod Server

@@ -10,7 +10,7 @@ use Rattle.topic_conf.specs.Configs.{ConfigParts}
 use Rattle.broker_model.specs.Disks.{Disks}
 use Rattle.broker_model.specs.Hosted.{Hosted}
 use Rattle.broker_model.specs.Machine.{Machine}
-use Rattle.broker_core.specs.Carried.{IsFresh}
+use Rattle.broker_core.specs.Carried.{AreFreshStates, IsFresh}
 use Rattle.broker_core.specs.Bays.{AreOut, AreTakenFrom, HasLastCount, IsFirst, IsOfDevice, StandForAll, StaysAs, TellsDisks}
 use Rattle.broker_core.specs.Cores.{IsCore, IsWhole, core_of, state_of}
 use Rattle.broker_core.specs.Hosts.{HostsParts, all_names, disks_in, hosted_slots}
@@ -46,13 +46,14 @@ AreWhole conf shards = IsWhole (core_of conf [] (hosts_of shards))
 
 -- ---- an opening
 
--- The shards are those of the opening of what the bay tells, and their disks were taken from it. Each partition stands for what it has in memory,
--- also where its disks don't tell their contents.
+-- The shards are those of the opening of what the bay tells, and their disks were taken from it. Each partition and foreign state stand for what
+-- they have in memory, also where their disks don't tell their contents.
 pub record IsOpening {B D : Type 0} (bay_seen : B → BayView D) (seen : D → DiskView) (conf : ConfigParts) (old new : B)
     (shards : ShardParts D) : Type 0 where
   pub opens : (contents : List ℕ → List ℕ) (was : Disks) → TellsDisks bay_seen seen conf old contents was → (m : Machine)
       × IsCore seen (core_of conf [] (hosts_of shards)) m × IsFirst conf contents was (state_of seen m (core_of conf [] (hosts_of shards)))
   pub fresh : AllByRecursion (λ (h : Host D). IsFresh seen h.part) shards.parts
+  pub fresh_states : AreFreshStates seen shards.foreign.foreign
   pub whole : AreWhole conf shards
   pub taken : AreOut bay_seen (names_in shards) new
   pub counts : AreTakenFrom bay_seen seen conf old new (disks_in (hosts_of shards))

@@ -8,7 +8,7 @@ ghost use Rattle.broker_shards.specs.Acts.{ActsPart};
 ghost use Rattle.broker_shards.specs.Hosts.{Host};
 ghost use Rattle.broker_run.specs.Closing.{Closes};
 ghost use Rattle.broker_run.specs.Opening.{AreWhole, names_in, slot_of};
-ghost use Rattle.broker_run.specs.Rows.{AreAll, Ends, StandsFor};
+ghost use Rattle.broker_run.specs.Rows.{AreAll, AreEnded, StandsFor};
 ghost use Rattle.broker_run.specs.Shared.{first_shards};
 
 use crate::shared::{Passes, Shared, gather};
@@ -49,7 +49,7 @@ fn close_parts<D: Disk + Drop, B: Bay<D = D>>(
     requires apart { AreDistinct (part_disks (hosted_slots (map (λ l. slot_of l.first) locks.items))) }
     requires out { (name : List ℕ) → IsOneOf (part_disks (hosted_slots (map (λ l. slot_of l.first) locks.items))) name
         → (B.seen bay.old).out name ≡ true }
-    ensures { (last : List (Host D)) × AllZip (Ends (ActsPart D.seen)) locks.items last
+    ensures { (last : List (Host D)) × AreEnded (ActsPart D.seen) locks.items passes.items last
         × PutsAll B.seen D.seen (slots_disks (map slot_of last)) bay.old bay.new }
 {
     let mut passes = passes.into_iter();
@@ -72,7 +72,7 @@ pub fn close_shared<D: Disk + Drop, B: Bay<D = D>>(
     requires opened { AreWhole shared.conf (first_shards shared) }
     requires all { (seats : _) × AreAll shared seats passes.items × (0 < seats) }
     requires out { (name : List ℕ) → IsOneOf (names_in (first_shards shared)) name → (B.seen bay.old).out name ≡ true }
-    ensures { Closes B.seen D.seen shared bay.old bay.new }
+    ensures { Closes B.seen D.seen shared passes.items bay.old bay.new }
 {
     let pass = gather(&shared, passes);
     let Shared {

@@ -2,7 +2,7 @@
 ghost use Rattle.std.specs.Prelude.{◌≡◌, vec_len};
 
 use crate::naming::{Handed, Naming};
-use edge_io::Disk;
+use edge_io::{Clock, Disk, Link};
 use share_model::NoMemory;
 use std::alloc::Global;
 use std::collections::VecDeque;
@@ -12,25 +12,26 @@ use std::sync::{Condvar, Mutex, Wait};
 /// What lies under the lock: links that wait for a worker, whether no more come, whether the end was told, and the
 /// passes that came back.
 #[derive(Drop)]
-struct Papers<K, D: Disk, B: Naming<D>> {
+struct Papers<K: Link, C: Clock, D: Disk, B: Naming<D>> {
     links: VecDeque<(u32, K)>,
     served: bool,
     ended: bool,
-    home: Vec<Handed<D, B>>,
+    home: Vec<Handed<K, C, D, B>>,
 }
 
 /// The desk. Whoever changes what lies on it wakes those who wait there.
 #[derive(Drop)]
-pub struct Desk<K, D: Disk, B: Naming<D>> {
-    papers: Mutex<Papers<K, D, B>>,
+pub struct Desk<K: Link, C: Clock, D: Disk, B: Naming<D>> {
+    papers: Mutex<Papers<K, C, D, B>>,
     moved: Condvar,
 }
 
-impl<K, D: Disk, B: Naming<D>> Desk<K, D, B> {
+impl<K: Link, C: Clock, D: Disk, B: Naming<D>> Desk<K, C, D, B> {
     /// An empty desk, with room for so many rows of passes.
-    pub fn new(alloc: Global, seats: usize) -> Result<Desk<K, D, B>, NoMemory>
+    pub fn new(alloc: Global, seats: usize) -> Result<Desk<K, C, D, B>, NoMemory>
     where
         K: Drop,
+        C: Drop,
         D: Drop,
         B: Drop,
     {
@@ -88,8 +89,10 @@ impl<K, D: Disk, B: Naming<D>> Desk<K, D, B> {
     }
 
     /// Hands passes back. There is room for those of all seats.
-    pub fn give_back<R: Wait>(&self, rt: &R, handed: Handed<D, B>)
+    pub fn give_back<R: Wait>(&self, rt: &R, handed: Handed<K, C, D, B>)
     where
+        K: Drop,
+        C: Drop,
         D: Drop,
         B: Drop,
     {
@@ -109,7 +112,7 @@ impl<K, D: Disk, B: Naming<D>> Desk<K, D, B> {
     }
 
     /// Waits until the passes of so many seats came back, and takes them.
-    pub fn all_home<R: Wait>(&self, rt: &R, alloc: Global, seats: usize) -> Vec<Handed<D, B>>
+    pub fn all_home<R: Wait>(&self, rt: &R, alloc: Global, seats: usize) -> Vec<Handed<K, C, D, B>>
         ensures { vec_len result ≡ seats }
     {
         let mut papers = self.moved.wait_while(rt, self.papers.lock(rt), |papers| {

@@ -5,7 +5,8 @@ ghost use Rattle.std.specs.List.{AllByRecursion};
 ghost use Rattle.edge_io.specs.Causes.{Rose};
 ghost use Rattle.broker_run.specs.Acting.{HostsAll};
 ghost use Rattle.broker_run.specs.Homes.{HasLinksEnd, IsHome, IsNamed};
-ghost use Rattle.broker_run.specs.Rows.{AreAll, IsRow};
+ghost use Rattle.broker_run.specs.Rows.{AreAll, IsAlone, IsUnused};
+ghost use Rattle.broker_run.specs.Working.{HasWorked};
 
 use crate::desk::Desk;
 use crate::naming::{Handed, Named, Naming};
@@ -33,19 +34,19 @@ pub enum LinksEnd {
 
 // What the jobs of one server share.
 #[derive(Drop)]
-struct Crew<K, G, D: Disk, B: Naming<D>> {
+struct Crew<K: Link, C: Clock, G, D: Disk, B: Naming<D>> {
     shared: Named<D, B>,
-    desk: Arc<Desk<K, D, B>, Global>,
+    desk: Arc<Desk<K, C, D, B>, Global>,
     gate: Arc<G, Global>,
 }
 
 // What the jobs of a server over these locks share, with room on the desk for its passes.
-fn make_crew<K: Drop, G: Drop, D: Disk + Drop, B: Naming<D> + Drop>(
+fn make_crew<K: Link + Drop, C: Clock + Drop, G: Drop, D: Disk + Drop, B: Naming<D> + Drop>(
     alloc: Global,
     shared: Shared<D>,
     gate: G,
     seats: usize,
-) -> Result<Crew<K, G, D, B>, NoMemory>
+) -> Result<Crew<K, C, G, D, B>, NoMemory>
     requires { IsNamed B.shared shared }
 {
     let shared = Named::new(Arc::new(alloc, shared)?);
@@ -55,9 +56,9 @@ fn make_crew<K: Drop, G: Drop, D: Disk + Drop, B: Naming<D> + Drop>(
     Ok(Crew { shared, desk, gate })
 }
 
-impl<K, G, D: Disk, B: Naming<D>> Crew<K, G, D, B> {
+impl<K: Link, C: Clock, G, D: Disk, B: Naming<D>> Crew<K, C, G, D, B> {
     // What one more job has, where memory is found for it; else its passes come back.
-    fn hand<R: Wait + Clone + Drop, C: Clock>(
+    fn hand<R: Wait + Clone + Drop>(
         &self,
         rt: &R,
         row: Passes<D>,
@@ -65,10 +66,11 @@ impl<K, G, D: Disk, B: Naming<D>> Crew<K, G, D, B> {
     ) -> Result<Hand<R, K, C, D, B>, Passes<D>>
     where
         K: Drop,
+        C: Drop,
         D: Drop,
         B: Drop,
-        requires { IsHome B.shared row }
-        ensures { IfErr result (IsHome B.shared) }
+        requires { IsHome D.seen K.left K.held C.told B.shared row }
+        ensures { IfErr result (IsHome D.seen K.left K.held C.told B.shared) }
     {
         let Ok(shared) = self.shared.again() else {
             return Err(row);
@@ -91,10 +93,18 @@ impl<K, G, D: Disk, B: Naming<D>> Crew<K, G, D, B> {
 }
 
 // Starts a job. One that is refused is done here, once the end was told to all.
-fn start_job<R: Wait, K, P: Spawner, J: FnOnce() + Send + 'static, D: Disk, B: Naming<D>>(
+fn start_job<
+    R: Wait,
+    K: Link,
+    C: Clock,
+    P: Spawner,
+    J: FnOnce() + Send + 'static,
+    D: Disk,
+    B: Naming<D>,
+>(
     rt: &R,
     job: J,
-    desk: &Desk<K, D, B>,
+    desk: &Desk<K, C, D, B>,
     spawner: &mut P,
 ) -> bool
     requires { J.pre job }
@@ -112,12 +122,12 @@ fn start_job<R: Wait, K, P: Spawner, J: FnOnce() + Send + 'static, D: Disk, B: N
 }
 
 // Gives passes back that no job took.
-fn give_all_back<R: Wait, K, D: Disk + Drop, B: Naming<D> + Drop>(
+fn give_all_back<R: Wait, K: Link + Drop, C: Clock + Drop, D: Disk + Drop, B: Naming<D> + Drop>(
     rt: &R,
-    desk: &Desk<K, D, B>,
+    desk: &Desk<K, C, D, B>,
     passes: Vec<Passes<D>>,
 )
-    requires { AllByRecursion (IsHome B.shared) passes.items }
+    requires { AllByRecursion (IsHome D.seen K.left K.held C.told B.shared) passes.items }
 {
     let mut passes = passes;
     while let Some(row) = passes.pop() {
@@ -137,12 +147,12 @@ fn start_sweeper<
     B: Naming<D> + Drop + Send + Sync + 'static,
 >(
     rt: &R,
-    crew: &Crew<K, G, D, B>,
+    crew: &Crew<K, C, G, D, B>,
     row: Passes<D>,
     clock: &C,
     spawner: &mut P,
 ) -> Result<bool, NoMemory>
-    requires { IsHome B.shared row }
+    requires { IsHome D.seen K.left K.held C.told B.shared row }
     ensures cause { IfOk result (λ started. started ≡ false → Rose (P.faults spawner.old) (P.faults spawner.new)) }
     ensures later { P.faults spawner.old ≤ P.faults spawner.new }
 {
@@ -167,12 +177,12 @@ fn start_worker<
 >(
     rt: &R,
     alloc: Global,
-    crew: &Crew<K, G, D, B>,
+    crew: &Crew<K, C, G, D, B>,
     row: Passes<D>,
     clock: &C,
     spawner: &mut P,
 ) -> Result<bool, NoMemory>
-    requires { IsHome B.shared row }
+    requires { IsHome D.seen K.left K.held C.told B.shared row }
     ensures cause { IfOk result (λ started. started ≡ false → Rose (P.faults spawner.old) (P.faults spawner.new)) }
     ensures later { P.faults spawner.old ≤ P.faults spawner.new }
 {
@@ -201,12 +211,12 @@ fn start_workers<
 >(
     rt: &R,
     alloc: Global,
-    crew: &Crew<K, G, D, B>,
+    crew: &Crew<K, C, G, D, B>,
     passes: Vec<Passes<D>>,
     clock: &C,
     spawner: &mut P,
 ) -> Result<bool, NoMemory>
-    requires { AllByRecursion (IsHome B.shared) passes.items }
+    requires { AllByRecursion (IsHome D.seen K.left K.held C.told B.shared) passes.items }
     ensures cause { IfOk result (λ started. started ≡ false → Rose (P.faults spawner.old) (P.faults spawner.new)) }
     ensures later { P.faults spawner.old ≤ P.faults spawner.new }
 {
@@ -240,12 +250,12 @@ fn start_all<
 >(
     rt: &R,
     alloc: Global,
-    crew: &Crew<K, G, D, B>,
+    crew: &Crew<K, C, G, D, B>,
     passes: Vec<Passes<D>>,
     clock: &C,
     spawner: &mut P,
 ) -> Result<bool, NoMemory>
-    requires { AllByRecursion (IsHome B.shared) passes.items }
+    requires { AllByRecursion (IsHome D.seen K.left K.held C.told B.shared) passes.items }
     ensures { IfOk result (λ started. started ≡ false → Rose (P.faults spawner.old) (P.faults spawner.new)) }
 {
     let mut passes = passes;
@@ -266,9 +276,9 @@ fn start_all<
 }
 
 // Takes so many links from a listener, and puts them down for workers.
-fn take_links<R: Wait, L: Listener, D: Disk, B: Naming<D>>(
+fn take_links<R: Wait, C: Clock, L: Listener, D: Disk, B: Naming<D>>(
     rt: &R,
-    desk: &Desk<L::L, D, B>,
+    desk: &Desk<L::L, C, D, B>,
     listener: &mut L,
     accept: u32,
 ) -> LinksEnd
@@ -306,7 +316,7 @@ fn hand_out<
 >(
     rt: &R,
     alloc: Global,
-    crew: &Crew<L::L, G, D, B>,
+    crew: &Crew<L::L, C, G, D, B>,
     passes: Vec<Passes<D>>,
     accept: u32,
     clock: &C,
@@ -315,7 +325,7 @@ fn hand_out<
 ) -> LinksEnd
 where
     L::L: Drop + Send + 'static,
-    requires { AllByRecursion (IsHome B.shared) passes.items }
+    requires { AllByRecursion (IsHome D.seen L.L.left L.L.held C.told B.shared) passes.items }
     ensures { HasLinksEnd result accept (L.given listener.old) (L.given listener.new) (L.done listener.new)
         (L.faults listener.old) (L.faults listener.new) (P.faults spawner.old) (P.faults spawner.new) }
 {
@@ -341,14 +351,15 @@ fn take_back<R: Wait, D: Disk, B: Naming<D>>(rt: &R, shared: Named<D, B>) -> Sha
 }
 
 // The passes that came back, for which there is room.
-fn unpack<D: Disk, B: Naming<D>>(
-    home: Vec<Handed<D, B>>,
+fn unpack<K: Link, C: Clock, D: Disk, B: Naming<D>>(
+    home: Vec<Handed<K, C, D, B>>,
     room: Vec<Passes<D>>,
     shared: &Shared<D>,
 ) -> Vec<Passes<D>>
     requires named { IsNamed B.shared shared.now }
     requires room { (room.items ≡ []) × (vec_len home ≤ vec_capacity room) }
-    ensures each { AllByRecursion (IsRow 1 shared.now) result.items }
+    ensures each { AllByRecursion (IsAlone shared.now) result.items }
+    ensures worked { AllByRecursion (HasWorked D.seen K.left K.held C.told shared.now) result.items }
     ensures count { vec_len result ≡ vec_len home }
 {
     let mut home = home;
@@ -383,15 +394,17 @@ where
     L::L: Drop + Send + 'static,
     requires named { IsNamed B.shared shared }
     requires all { AreAll shared (length passes.items) passes.items }
+    requires unused { AllByRecursion IsUnused passes.items }
     ensures shared { IfSome result (λ r. r.1 ≡ shared) }
     ensures all { IfSome result (λ r. AreAll shared (length passes.items) r.2.items) }
+    ensures worked { IfSome result (λ r. AllByRecursion (HasWorked D.seen L.L.left L.L.held C.told shared) r.2.items) }
     ensures end { IfSome result (λ r. HasLinksEnd r.0 accept (L.given listener.old) (L.given listener.new) (L.done listener.new)
         (L.faults listener.old) (L.faults listener.new) (P.faults spawner.old) (P.faults spawner.new)) }
     ensures none { IfNone result ((listener.new ≡ listener.old) × (spawner.new ≡ spawner.old)) }
 {
     let seats = passes.len();
     let room = Vec::with_capacity(alloc, seats).ok()?;
-    let crew: Crew<L::L, G, D, B> = make_crew(alloc, shared, gate, seats).ok()?;
+    let crew: Crew<L::L, C, G, D, B> = make_crew(alloc, shared, gate, seats).ok()?;
     let end = hand_out(rt, alloc, &crew, passes, accept, clock, listener, spawner);
     crew.desk.finish(rt);
     crew.desk.all_served(rt, seats);
@@ -408,7 +421,7 @@ where
 ///
 /// One job expires locks and sessions, once a second; each other row of passes goes to a worker. Then links are
 /// taken, and each is handed to one worker. Where a job is refused, the end is told to all, and that job is done
-/// here.
+/// here. Nothing else is done through the passes.
 pub fn serve_links<
     R: Wait + Clone + Drop + Send + Sync + 'static,
     C: Clock + Drop + Send + 'static,
@@ -431,8 +444,10 @@ where
     L::L: Drop + Send + 'static,
     requires hosts { HostsAll shared.conf shared }
     requires all { AreAll shared (length passes.items) passes.items }
+    requires unused { AllByRecursion IsUnused passes.items }
     ensures shared { IfSome result (λ r. r.1 ≡ shared) }
     ensures all { IfSome result (λ r. AreAll shared (length passes.items) r.2.items) }
+    ensures worked { IfSome result (λ r. AllByRecursion (HasWorked D.seen L.L.left L.L.held C.told shared) r.2.items) }
     ensures end { IfSome result (λ r. HasLinksEnd r.0 accept (L.given listener.old) (L.given listener.new) (L.done listener.new)
         (L.faults listener.old) (L.faults listener.new) (P.faults spawner.old) (P.faults spawner.new)) }
     ensures none { IfNone result ((listener.new ≡ listener.old) × (spawner.new ≡ spawner.old)) }

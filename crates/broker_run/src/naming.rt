@@ -5,7 +5,7 @@ ghost use Rattle.std.specs.Arc.{arc_value};
 ghost use Rattle.broker_run.specs.Homes.{IsHome, IsNamed};
 
 use crate::shared::{Passes, Shared};
-use edge_io::Disk;
+use edge_io::{Clock, Disk, Link};
 use std::alloc::{AllocError, Global};
 use std::marker::{Brand, Model, PhantomData};
 use std::sync::Arc;
@@ -24,14 +24,15 @@ impl<D> Naming<D> for Brand {
     ghost shared = { None };
 }
 
-/// Passes of the server's locks, each of which stands for itself alone.
+/// Passes of the server's locks, each of which stands for itself alone. All that was done through them are served
+/// links of the one type, and turns of expiries by clocks of the other.
 #[derive(Drop)]
-pub struct Handed<D: Disk, B: Naming<D>> {
+pub struct Handed<K: Link, C: Clock, D: Disk, B: Naming<D>> {
     passes: Passes<D>,
-    of: PhantomData<B>,
+    of: PhantomData<(K, C, B)>,
 }
 
-impl<D: Disk, B: Naming<D>> Model for Handed<D, B> {
+impl<K: Link, C: Clock, D: Disk, B: Naming<D>> Model for Handed<K, C, D, B> {
     ghost use Rattle.broker_run.specs.Shared.{PassesParts};
     ghost use Rattle.broker_run.specs.Homes.{IsHome};
 
@@ -39,12 +40,12 @@ impl<D: Disk, B: Naming<D>> Model for Handed<D, B> {
 
     ghost view = { λ h. h.passes };
 
-    ghost invariant = { λ h. IsHome B.shared h.passes };
+    ghost invariant = { λ h. IsHome D.seen K.left K.held C.told B.shared h.passes };
 }
 
-impl<D: Disk, B: Naming<D>> Handed<D, B> {
-    pub fn new(passes: Passes<D>) -> Handed<D, B>
-        requires { IsHome B.shared passes }
+impl<K: Link, C: Clock, D: Disk, B: Naming<D>> Handed<K, C, D, B> {
+    pub fn new(passes: Passes<D>) -> Handed<K, C, D, B>
+        requires { IsHome D.seen K.left K.held C.told B.shared passes }
         ensures { result ≡ passes }
     {
         Handed {
@@ -54,7 +55,7 @@ impl<D: Disk, B: Naming<D>> Handed<D, B> {
     }
 
     pub fn into_passes(self) -> Passes<D>
-        ensures home { IsHome B.shared result }
+        ensures home { IsHome D.seen K.left K.held C.told B.shared result }
         ensures is { result ≡ self }
     {
         let Handed { passes, of: _ } = self;

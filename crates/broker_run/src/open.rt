@@ -1,4 +1,5 @@
 // The locks around a broker's shards, opened on the disks of a bay.
+ghost use Rattle.std.specs.List.{AllByRecursion};
 ghost use Rattle.std.specs.Prelude.{◌≡◌, ◌<◌, ◌≤◌, ◌⊎◌, [], List, ℕ, IfErr, IfOk, map};
 ghost use Rattle.edge_io.specs.Bays.{SameSlot};
 ghost use Rattle.broker_model.specs.Hosted.{IsTaken};
@@ -6,7 +7,7 @@ ghost use Rattle.broker_core.specs.Bays.{AreOut, TellsStill};
 ghost use Rattle.broker_core.specs.Hosts.{AreOpen, AreOpenParts, IsOpen, IsOpenState, parts_of};
 ghost use Rattle.broker_core.specs.declared.slot.ForeignSlot.TheVariants as foreign;
 ghost use Rattle.broker_run.specs.Opening.{AreWhole, IsOpening, IsRefused, hosts_of, slot_of};
-ghost use Rattle.broker_run.specs.Rows.{AreAll, shards_of};
+ghost use Rattle.broker_run.specs.Rows.{AreAll, IsUnused, shards_of};
 ghost use Rattle.broker_run.specs.Shared.{first_shards};
 
 use crate::shared::{Passes, ShardSet, Shared, lock_shards};
@@ -90,6 +91,7 @@ fn lock_core<D: Disk + Drop>(
     ensures locks { IfOk result (λ r. hosts_of (first_shards r.0) ≡ core.hosts) }
     ensures whole { IfOk result (λ r. (r.0.conf ≡ core.conf) × AreWhole core.conf (first_shards r.0)) }
     ensures passes { IfOk result (λ r. AreAll r.0 seats r.1.items) }
+    ensures unused { IfOk result (λ r. AllByRecursion IsUnused r.1.items) }
     ensures memory { IfErr result (λ e. e ≡ CoreOpen.NoMemory) }
 {
     let (conf, hosts) = core.into_hosts();
@@ -117,6 +119,7 @@ pub fn open_shared<D: Disk + Drop, B: Bay<D = D>>(
     requires some { 0 < seats }
     ensures opens { IfOk result (λ r. (r.0.conf ≡ conf) × IsOpening B.seen D.seen conf bay.old bay.new (first_shards r.0)) }
     ensures passes { IfOk result (λ r. AreAll r.0 seats r.1.items) }
+    ensures unused { IfOk result (λ r. AllByRecursion IsUnused r.1.items) }
     // Each refusal has its cause.
     ensures refused { IfErr result (λ e. IsRefused B.seen D.seen conf bay.old e bay.new) }
     // A disk that isn't the broker's is as it was.

@@ -1,7 +1,7 @@
 // Rows of passes, one of each lock.
 ghost use Rattle.std.specs.Prelude.{◌≡◌, ◌<◌, ◌+◌, ◌++◌, ◌∷◌, [], IfOk, length, map};
 ghost use Rattle.std.specs.List.{AllByRecursion, AllZip};
-ghost use Rattle.broker_run.specs.Rows.{RowOf, StandsFor};
+ghost use Rattle.broker_run.specs.Rows.{IsNew, RowOf, StandsAmong};
 
 use crate::shared::Passes;
 use broker_shards::{ForeignHost, MembersHost, PartHost};
@@ -18,8 +18,8 @@ pub fn make_rows<D: Disk + Drop>(
     foreign: &ShardLock<ForeignHost<D>>,
     foreign_passes: Vec<Pass<ForeignHost<D>>>,
 ) -> Result<Vec<Passes<D>>, NoMemory>
-    requires members { AllByRecursion (StandsFor 1 members.now) member_passes.items }
-    requires foreign { AllByRecursion (StandsFor 1 foreign.now) foreign_passes.items }
+    requires members { AllByRecursion (IsNew members.now) member_passes.items }
+    requires foreign { AllByRecursion (IsNew foreign.now) foreign_passes.items }
     requires count { length foreign_passes.items ≡ length member_passes.items }
     ensures each { IfOk result (λ rows. AllByRecursion (RowOf [] members.now foreign.now) rows.items) }
     ensures count { IfOk result (λ rows. length rows.items ≡ length member_passes.items) }
@@ -47,7 +47,7 @@ fn spread<D: Disk + Drop>(
     foreign: &ShardLock<ForeignHost<D>>,
 ) -> Result<Vec<Passes<D>>, NoMemory>
     requires rows { AllByRecursion (RowOf locks.now members.now foreign.now) rows.items }
-    requires passes { AllByRecursion (StandsFor 1 lock.now) passes.items }
+    requires passes { AllByRecursion (IsNew lock.now) passes.items }
     requires count { length passes.items ≡ length rows.items }
     ensures each { IfOk result (λ out. AllByRecursion (RowOf (locks.now ++ lock.now ∷ []) members.now foreign.now) out.items) }
     ensures count { IfOk result (λ out. length out.items ≡ length rows.items) }
@@ -97,9 +97,11 @@ pub fn join_parts<D: Disk + Drop>(
     into: &mut Vec<Pass<PartHost<D>>>,
     others: Vec<Pass<PartHost<D>>>,
 )
-    requires into { (n : _) × AllZip (StandsFor n) locks.now.items into.old.items }
-    requires others { AllZip (StandsFor 1) locks.now.items others.items }
-    ensures { (n : _) → AllZip (StandsFor n) locks.now.items into.old.items → AllZip (StandsFor (n + 1)) locks.now.items into.new.items }
+    requires { (given n : _) × AllZip (StandsAmong given n) locks.now.items into.old.items
+        × AllZip (StandsAmong given 1) locks.now.items others.items }
+    ensures { (given n : _) → AllZip (StandsAmong given n) locks.now.items into.old.items
+        → AllZip (StandsAmong given 1) locks.now.items others.items
+        → AllZip (StandsAmong given (n + 1)) locks.now.items into.new.items }
 {
     let mut others = others;
     while let Some(other) = others.pop() {

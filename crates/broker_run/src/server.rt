@@ -6,6 +6,7 @@ ghost use Rattle.broker_core.specs.Bays.{AreOut, TellsStill};
 ghost use Rattle.broker_run.specs.Homes.{HasLinksEnd};
 ghost use Rattle.broker_run.specs.Opening.{IsRefused};
 ghost use Rattle.broker_run.specs.Server.{EndsServing, Serves};
+ghost use Rattle.broker_run.specs.Working.{HasWorked};
 
 use crate::close::close_shared;
 use crate::jobs::{LinksEnd, serve_links};
@@ -54,9 +55,10 @@ where
     requires out { AreOut B.seen [] bay.old }
     requires few { workers + 1 < 2 ^ 32 }
 
-    // The disks stand for what legal histories leave of the opening; or the opening was refused. Behind want of memory
-    // nothing is said of its disks then.
-    ensures serves { EndsServing result (λ fault. IsRefused B.seen D.seen conf bay.old fault bay.new) (λ end. Serves B.seen D.seen conf bay.old bay.new
+    // The disks stand for what legal histories leave of the opening, whose entries are those of served links and of
+    // turns of expiries; or the opening was refused. Behind want of memory nothing is said of its disks then.
+    ensures serves { EndsServing result (λ fault. IsRefused B.seen D.seen conf bay.old fault bay.new)
+        (λ end. Serves B.seen D.seen (HasWorked D.seen L.L.left L.L.held C.told) conf bay.old bay.new
         × HasLinksEnd end accept (L.given listener.old) (L.given listener.new) (L.done listener.new)
         (L.faults listener.old) (L.faults listener.new) (P.faults spawner.old) (P.faults spawner.new)) }
 

@@ -1,6 +1,7 @@
 // Locks around all shards, and passes through them.
 ghost use Rattle.std.specs.Prelude.{◌≡◌, ◌<◌, ◌+◌, ◌++◌, ◌∷◌, [], IfOk};
-ghost use Rattle.broker_run.specs.Rows.{AreAll, IsRow, shards_of};
+ghost use Rattle.std.specs.List.{AllByRecursion};
+ghost use Rattle.broker_run.specs.Rows.{AreAll, IsRow, IsUnused, shards_of};
 ghost use Rattle.broker_run.specs.Shared.{first_shards};
 
 use crate::rows::{join_parts, lock_parts, make_rows};
@@ -105,6 +106,7 @@ pub fn lock_shards<D: Disk + Drop>(
     ensures locks { IfOk result (λ r. first_shards r.0 ≡ shards_of shards) }
     ensures conf { IfOk result (λ r. r.0.conf ≡ conf) }
     ensures passes { IfOk result (λ r. AreAll r.0 seats r.1.items) }
+    ensures unused { IfOk result (λ r. AllByRecursion IsUnused r.1.items) }
 {
     let ShardSet {
         parts,
@@ -126,9 +128,9 @@ pub fn lock_shards<D: Disk + Drop>(
 
 // Joins one row of passes into another.
 fn merge<D: Disk + Drop>(shared: &Shared<D>, into: &mut Passes<D>, other: Passes<D>)
-    requires into { (n : _) × IsRow n shared.now into.old }
-    requires other { IsRow 1 shared.now other }
-    ensures { (n : _) → IsRow n shared.now into.old → IsRow (n + 1) shared.now into.new }
+    requires { (rows n : _) × IsRow rows n shared.now into.old × IsRow rows 1 shared.now other }
+    ensures { (rows n : _) → IsRow rows n shared.now into.old → IsRow rows 1 shared.now other
+        → IsRow rows (n + 1) shared.now into.new }
 {
     let Passes {
         parts,
@@ -140,10 +142,10 @@ fn merge<D: Disk + Drop>(shared: &Shared<D>, into: &mut Passes<D>, other: Passes
     shared.foreign.join(&mut into.foreign, foreign);
 }
 
-/// Joins all rows into one.
+/// Joins all rows into one, whose passes stand for those of the rows.
 pub fn gather<D: Disk + Drop>(shared: &Shared<D>, passes: Vec<Passes<D>>) -> Passes<D>
     requires { (seats : _) × AreAll shared.now seats passes.items × (0 < seats) }
-    ensures { (seats : _) → AreAll shared.now seats passes.items → IsRow seats shared.now result }
+    ensures { (seats : _) → AreAll shared.now seats passes.items → IsRow passes.items seats shared.now result }
 {
     let mut passes = passes;
     let Some(first) = passes.pop() else {

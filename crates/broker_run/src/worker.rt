@@ -1,5 +1,9 @@
 // What the jobs of a server do: a worker serves links from the desk, and the expiry worker expires locks and
 // sessions, each through its own passes.
+ghost use Rattle.std.specs.Prelude.{◌≡◌};
+ghost use Rattle.broker_run.specs.Homes.{IsNamed};
+ghost use Rattle.broker_run.specs.Working.{HasExpired, HasServed};
+
 use crate::connection::{Ended, serve_connection};
 use crate::desk::Desk;
 use crate::expiry::expiry_turn;
@@ -11,16 +15,18 @@ use std::sync::{Arc, Wait};
 
 /// What a job has: its own passes and clock, and with the others the locks and the desk.
 #[derive(Drop)]
-pub struct Hand<R, K, C, D: Disk, B: Naming<D>> {
+pub struct Hand<R, K: Link, C: Clock, D: Disk, B: Naming<D>> {
     pub rt: R,
     pub shared: Named<D, B>,
-    pub desk: Arc<Desk<K, D, B>, Global>,
-    pub handed: Handed<D, B>,
+    pub desk: Arc<Desk<K, C, D, B>, Global>,
+    pub handed: Handed<K, C, D, B>,
     pub clock: C,
 }
 
 // Tells a link why the broker closes it, where it does.
-fn tell_end<K: Link>(link: &mut K, ended: Ended) {
+fn tell_end<K: Link>(link: &mut K, ended: Ended)
+    ensures { (K.left link.new ≡ K.left link.old) × (K.held link.new ≡ K.held link.old) }
+{
     let reason = match ended {
         Ended::Closed(CloseCause::TooLong { size }) => CloseReason::TooLong { size },
         Ended::Closed(CloseCause::BadHeader) => CloseReason::BadHeader,
@@ -41,12 +47,15 @@ fn serve_link<R: Wait, K: Link, C: Clock, G: Gate, D: Disk, B: Naming<D>>(
     rt: &R,
     alloc: Global,
     shared: &Named<D, B>,
-    handed: Handed<D, B>,
+    handed: Handed<K, C, D, B>,
     number: u32,
     link: &mut K,
     clock: &mut C,
     gate: &G,
-) -> Handed<D, B> {
+) -> Handed<K, C, D, B>
+    ensures { (locks : _) → IsNamed B.shared locks → HasServed D.seen locks handed result
+        (K.left link.old) (K.left link.new) (K.held link.old) (K.held link.new) (C.told clock.old) (C.told clock.new) }
+{
     let mut passes = handed.into_passes();
     let ended = serve_connection(
         rt,
@@ -67,11 +76,11 @@ fn serve_all<R: Wait, K: Link + Drop, C: Clock, G: Gate, D: Disk, B: Naming<D>>(
     rt: &R,
     alloc: Global,
     shared: &Named<D, B>,
-    desk: &Desk<K, D, B>,
-    handed: Handed<D, B>,
+    desk: &Desk<K, C, D, B>,
+    handed: Handed<K, C, D, B>,
     clock: &mut C,
     gate: &G,
-) -> Handed<D, B> {
+) -> Handed<K, C, D, B> {
     let mut handed = handed;
     for _ in rt.forever() {
         let Some((number, mut link)) = desk.next(rt) else {
@@ -85,31 +94,33 @@ fn serve_all<R: Wait, K: Link + Drop, C: Clock, G: Gate, D: Disk, B: Naming<D>>(
 }
 
 // One turn of expiries.
-fn expire<R: Wait, C: Clock, D: Disk, B: Naming<D>>(
+fn expire<R: Wait, K: Link, C: Clock, D: Disk, B: Naming<D>>(
     rt: &R,
     shared: &Named<D, B>,
-    handed: Handed<D, B>,
+    handed: Handed<K, C, D, B>,
     clock: &mut C,
-) -> Handed<D, B> {
+) -> Handed<K, C, D, B>
+    ensures { (locks : _) → IsNamed B.shared locks → HasExpired D.seen locks handed result (C.told clock.old) (C.told clock.new) }
+{
     let mut passes = handed.into_passes();
     let _answer = expiry_turn(rt, shared.get(), &mut passes, clock);
     Handed::new(passes)
 }
 
 // Does a turn of expiries and pauses for a second, again and again, until the end was told.
-fn expire_all<R: Wait, K, C: Clock, D: Disk, B: Naming<D>>(
+fn expire_all<R: Wait, K: Link, C: Clock, D: Disk, B: Naming<D>>(
     rt: &R,
     shared: &Named<D, B>,
-    desk: &Desk<K, D, B>,
-    handed: Handed<D, B>,
+    desk: &Desk<K, C, D, B>,
+    handed: Handed<K, C, D, B>,
     clock: &mut C,
-) -> Handed<D, B> {
+) -> Handed<K, C, D, B> {
     let mut handed = handed;
     for _ in rt.forever() {
         if desk.is_ended(rt) {
             return handed;
         }
-        handed = expire::<R, C, D, B>(rt, shared, handed, clock);
+        handed = expire::<R, K, C, D, B>(rt, shared, handed, clock);
         clock.pause(1000);
     }
     unreachable!()

@@ -11,6 +11,7 @@ use Rattle.broker_core.specs.declared.fault.CoreOpen.TheVariants as open_fault
 use Rattle.broker_run.specs.Homes.{HasLinksEnd}
 use Rattle.broker_run.specs.Opening.{IsRefused}
 use Rattle.broker_run.specs.Server.{Serves}
+use Rattle.broker_run.specs.Shared.{PassesParts, SharedParts}
 use Rattle.broker_run.specs.declared.jobs.LinksEnd.{LinksEnd}
 use Rattle.broker_run.specs.declared.jobs.LinksEnd.TheVariants as links
 use Rattle.share_top.specs.declared.status.Status.{Status}
@@ -74,11 +75,12 @@ of_device : (fault : CoreOpen) (output : OutputChange) (status : Status) → IsR
     → (fault ≡ open_fault.Device) ⊎ (fault ≡ open_fault.Bay)
 of_device fault output status r is = (subst (λ (s : Status). IsRefusal fault output s) is r).0
 
-module _ {B D : Type 0} (bay_seen : B → BayView D) (seen : D → DiskView) (old new : B) (serve : ServeWords) (output : OutputChange)
+module _ {B D : Type 0} (bay_seen : B → BayView D) (seen : D → DiskView) (Worked : SharedParts D → PassesParts D → Type 0)
+    (old new : B) (serve : ServeWords) (output : OutputChange)
     (listener : ListenerChange) (spawner : SpawnerChange) (status : Status) where
-  pub served : (end : LinksEnd) → output.Same → Serves bay_seen seen serve.conf old new
+  pub served : (end : LinksEnd) → output.Same → Serves bay_seen seen Worked serve.conf old new
       → HasLinksEnd end serve.accept listener.given listener.given_after listener.done listener.faults listener.faults_after spawner.faults spawner.faults_after
-      → ServesTo end status → IsServe bay_seen seen old new serve output listener spawner status
+      → ServesTo end status → IsServe bay_seen seen Worked old new serve output listener spawner status
   served end same serves has to = inl (same, serves, caused end serve.accept listener spawner status has to)
 
   module _ (fault : CoreOpen) (refused : IsRefused bay_seen seen serve.conf old fault new) (r : IsRefusal fault output status) where
@@ -90,7 +92,7 @@ module _ {B D : Type 0} (bay_seen : B → BayView D) (seen : D → DiskView) (ol
     stay told known = disks_stay bay_seen seen (status ≡ Device) fault old new (refusal_device fault output status r) told
         (refused.stays (fault_known fault output status r known)) refused.fed
 
-    pub unserved : TellsStill bay_seen old new → listener.Same → spawner.Same → IsServe bay_seen seen old new serve output listener spawner status
+    pub unserved : TellsStill bay_seen old new → listener.Same → spawner.Same → IsServe bay_seen seen Worked old new serve output listener spawner status
     unserved told no_link no_job = inr (
       no_link,
       no_job,
@@ -114,10 +116,11 @@ module _ {B D : Type 0} (bay_seen : B → BayView D) (seen : D → DiskView) (ol
 
 -- ---- the status
 
-module _ {B D : Type 0} (bay_seen : B → BayView D) (seen : D → DiskView) (old new : B) (serve : ServeWords) (output : OutputChange)
+module _ {B D : Type 0} (bay_seen : B → BayView D) (seen : D → DiskView) (Worked : SharedParts D → PassesParts D → Type 0)
+    (old new : B) (serve : ServeWords) (output : OutputChange)
     (listener : ListenerChange) (spawner : SpawnerChange) (no_link : Rose listener.faults listener.faults_after → ⊥)
     (no_job : Rose spawner.faults spawner.faults_after → ⊥) (no_output : Rose output.faults output.faults_after → ⊥) where
-  completes : (status : Status) → IsServe bay_seen seen old new serve output listener spawner status → status ≢ Damaged
+  completes : (status : Status) → IsServe bay_seen seen Worked old new serve output listener spawner status → status ≢ Damaged
       → (status_number status ≡ 0) ⊎ ((status_number status ≡ 8) ⊎ ((status_number status ≡ 7) × CountRose bay_seen seen serve.conf old new))
   completes Done d whole = inl refl
   completes NoMemory d whole = inr (inl refl)
@@ -137,16 +140,17 @@ module _ {B D : Type 0} (bay_seen : B → BayView D) (seen : D → DiskView) (ol
   completes ReadFault (inl d) whole = absurd d.2
   completes ReadFault (inr d) whole = absurd d.3
 
-module _ {B D : Type 0} (bay_seen : B → BayView D) (seen : D → DiskView) (old new : B) (words : List (String Global))
+module _ {B D : Type 0} (bay_seen : B → BayView D) (seen : D → DiskView) (Worked : SharedParts D → PassesParts D → Type 0)
+    (old new : B) (words : List (String Global))
     (input : InputChange) (output : OutputChange) (listener : ListenerChange) (spawner : SpawnerChange) (number : ℕ) where
   abbrev Does : Type 0
-  Does = DoesServe bay_seen seen old new words input output listener spawner number
+  Does = DoesServe bay_seen seen Worked old new words input output listener spawner number
 
   abbrev Links : ServeWords → Type 0
-  Links serve = ServesLinks bay_seen seen old new serve input output listener spawner number
+  Links serve = ServesLinks bay_seen seen Worked old new serve input output listener spawner number
 
   module _ (listen : Address) (serve : ServeWords) (found : AreServeWords (texts words) listen serve) (status : Status) (is : number ≡ status_number status)
-      (ends : IsServe bay_seen seen old new serve output listener spawner status) (unread : input.Same)
+      (ends : IsServe bay_seen seen Worked old new serve output listener spawner status) (unread : input.Same)
       (recovers : HoldsStates bay_seen seen serve.conf old → status ≢ Damaged) (sound : IsSound bay_seen seen old → status ≢ Device) where
     links_served : Links serve
     links_served = record {
@@ -157,7 +161,7 @@ module _ {B D : Type 0} (bay_seen : B → BayView D) (seen : D → DiskView) (ol
       sound = λ s e. not_seven status (sound s) (sym is ∙ e);
       complete = λ told no_link no_job no_output.
           subst (λ (n : ℕ). (n ≡ 0) ⊎ ((n ≡ 8) ⊎ ((n ≡ 7) × CountRose bay_seen seen serve.conf old new))) (sym is)
-          (completes bay_seen seen old new serve output listener spawner no_link no_job no_output status ends (recovers told));
+          (completes bay_seen seen Worked old new serve output listener spawner no_link no_job no_output status ends (recovers told));
     }
 
     pub does_serve : Does

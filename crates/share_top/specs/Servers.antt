@@ -1,7 +1,7 @@
 -- A server, and what its status says (this project's own).
 -- For example `serve --accept 1` over a fresh folder, to which one client came, produced a batch and left, has status
 -- 0: its listener gave one link, and the disks stand for what the history of each shard leaves, which has that produce
--- among its entries.
+-- among its entries: it is what the worker that served a link did for it.
 use Rattle.std.specs.Prelude.{◌≡◌, ◌≢◌, ◌⊎◌, ℕ, Bool, true, List, String}
 use Rattle.std.specs.declared.alloc.Global.{Global}
 use Rattle.edge_io.specs.Bays.{IsSound}
@@ -9,6 +9,7 @@ use Rattle.edge_io.specs.Causes.{Rose}
 use Rattle.edge_io.specs.Serving.{Gave}
 use Rattle.edge_io.specs.Views.{DiskView, BayView}
 use Rattle.broker_run.specs.Server.{Serves}
+use Rattle.broker_run.specs.Shared.{PassesParts, SharedParts}
 use Rattle.broker_run.specs.declared.jobs.LinksEnd.{LinksEnd}
 use Rattle.broker_run.specs.declared.jobs.LinksEnd.TheVariants as links
 use Rattle.share_top.specs.declared.status.Status.{Status}
@@ -73,24 +74,25 @@ HasServeCause accept listener spawner WriteFault = ⊥
 HasServeCause accept listener spawner Damaged = ⊥
 HasServeCause accept listener spawner Device = ⊥
 
--- The disks stand for what legal histories leave of the opening, and nothing was written. Or the broker was not opened,
+-- The disks stand for what legal histories leave of the opening, all of whose entries were so worked, and nothing was
+-- written. Or the broker was not opened,
 -- no link was given and no job started; behind want of memory nothing is said of its disks then.
-abbrev pub IsServe : {B D : Type 0} → (B → BayView D) → (D → DiskView) → B → B → ServeWords → OutputChange
-    → ListenerChange → SpawnerChange → Status → Type 0
-IsServe bay_seen seen old new serve output listener spawner status =
-    (output.Same × Serves bay_seen seen serve.conf old new × HasServeCause serve.accept listener spawner status)
+abbrev pub IsServe : {B D : Type 0} → (B → BayView D) → (D → DiskView) → (SharedParts D → PassesParts D → Type 0) → B → B
+    → ServeWords → OutputChange → ListenerChange → SpawnerChange → Status → Type 0
+IsServe bay_seen seen Worked old new serve output listener spawner status =
+    (output.Same × Serves bay_seen seen Worked serve.conf old new × HasServeCause serve.accept listener spawner status)
     ⊎ (listener.Same × spawner.Same × (status ≢ NoMemory → DisksStay bay_seen seen (status ≡ Device) old new)
     × IsNotOpened serve.conf output (OfBay bay_seen seen serve.conf old) (CountRose bay_seen seen serve.conf old new)
     status)
 
 -- Where the words are those of a server, the program ends with this number.
-pub record ServesLinks {B D : Type 0} (bay_seen : B → BayView D) (seen : D → DiskView) (old new : B)
-    (serve : ServeWords)
+pub record ServesLinks {B D : Type 0} (bay_seen : B → BayView D) (seen : D → DiskView)
+    (Worked : SharedParts D → PassesParts D → Type 0) (old new : B) (serve : ServeWords)
     (input : InputChange) (output : OutputChange) (listener : ListenerChange) (spawner : SpawnerChange)
     (number : ℕ) : Type 0 where
   pub status : Status
   pub is : number ≡ status_number status
-  pub ends : IsServe bay_seen seen old new serve output listener spawner status
+  pub ends : IsServe bay_seen seen Worked old new serve output listener spawner status
   pub unread : input.Same
   -- over a sound bay no disk fails the opening
   pub sound : IsSound bay_seen seen old → number ≢ 7
@@ -106,10 +108,10 @@ abbrev pub IsBack : {B D : Type 0} → (B → BayView D) → List (String Global
 IsBack bay_seen words new number = (AreOfServe words → number ≢ 8) → NoneIsOut bay_seen new
 
 -- what a server does, where the words are those of one; else no link is given and no job started
-pub record DoesServe {B D : Type 0} (bay_seen : B → BayView D) (seen : D → DiskView) (old new : B)
-    (words : List (String Global))
+pub record DoesServe {B D : Type 0} (bay_seen : B → BayView D) (seen : D → DiskView)
+    (Worked : SharedParts D → PassesParts D → Type 0) (old new : B) (words : List (String Global))
     (input : InputChange) (output : OutputChange) (listener : ListenerChange) (spawner : SpawnerChange)
     (number : ℕ) : Type 0 where
   pub serves : (listen : Address) (serve : ServeWords) → AreServeWords (texts words) listen serve
-      → ServesLinks bay_seen seen old new serve input output listener spawner number
+      → ServesLinks bay_seen seen Worked old new serve input output listener spawner number
   pub alone : (AreOfServe words → ⊥) → listener.Same × spawner.Same

@@ -2,6 +2,7 @@
 ghost use Rattle.std.specs.Prelude.{◌≡◌, ◌≢◌, ◌≤◌, List, ℕ};
 ghost use Rattle.edge_io.specs.Bays.{IsSound, SameSlot};
 ghost use Rattle.broker_model.specs.Hosted.{IsTaken};
+ghost use Rattle.broker_run.specs.Working.{HasWorked};
 ghost use Rattle.share_top.specs.Changes.{output_change};
 ghost use Rattle.share_top.specs.Loading.{NoneIsOut};
 ghost use Rattle.share_top.specs.Servers.{IsServe, ServesTo, listener_change, spawner_change};
@@ -50,7 +51,8 @@ where
     L::L: Drop + Send + 'static,
     requires home { NoneIsOut B.seen bay.old }
     requires few { words.workers ≤ 256 }
-    ensures serve { IsServe B.seen D.seen bay.old bay.new words (output_change O.held O.faults output.old output.new)
+    ensures serve { IsServe B.seen D.seen (HasWorked D.seen L.L.left L.L.held C.told) bay.old bay.new words
+        (output_change O.held O.faults output.old output.new)
         (listener_change L.given L.done L.faults listener.old listener.new) (spawner_change P.faults spawner.old spawner.new) result }
     ensures back { result ≢ Status.NoMemory → NoneIsOut B.seen bay.new }
     ensures counted { result ≢ Status.WriteFault → O.faults output.new ≡ O.faults output.old }

@@ -20,7 +20,7 @@ returns-in-Ok-clause-ok g c = taken_both g.B.Bay.seen g.D.Disk.seen
     (gets_states g.B.Bay.seen g.D.Disk.seen
     c.in_ok-first.first c.in_ok-first.second c.foreign_state_a-first_name.result c.foreign_state_b-second_name.result c.args.bay.now c.take_two.new.bay
     c.foreign_state_a-first_name.ensures c.foreign_state_b-second_name.ensures c.in_ok-first.ensures.ok)
-    c.in-Ok.ensures.first.later c.in-Ok.ensures.second.later c.in-Ok.ensures.opens
+    c.in-Ok.ensures.first.later c.in-Ok.ensures.second.later c.in-Ok.ensures.opens c.in-Ok.ensures.fresh
 
 pub returns-in-Err-clause-err : goal.returns-in-Err-clause-err
 returns-in-Err-clause-err g c = refused_both g.B.Bay.seen g.D.Disk.seen

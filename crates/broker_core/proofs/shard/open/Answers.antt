@@ -12,6 +12,9 @@ returns-else-starved-clause-opens g c = λ a b is is_second.
     c.args.first c.args.second a b c.in-Ok.shard is is_second c.in-Ok.ensures.opened.opens c.in-Ok.ensures.opened.only c.in-Ok.ensures.carries
     c.in-Ok.ensures.both.one.runs c.in-Ok.ensures.both.two.runs fed.0 fed.1)
 
+pub returns-else-starved-clause-fresh : goal.returns-else-starved-clause-fresh
+returns-else-starved-clause-fresh g c = c.in-Ok.ensures.carries
+
 pub returns-else-starved-3-clause-recovers : goal.returns-else-starved-3-clause-recovers
 returns-else-starved-3-clause-recovers g c = λ a b states is is_second stands name place damaged.
     (let why = c.fault_of_open.ensures.damaged name place damaged in

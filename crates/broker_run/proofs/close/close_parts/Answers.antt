@@ -13,14 +13,14 @@ loop-lock-init g c =
     let P : Type 0 = PassParts (Host g.row.D.Denot) PartEvent PartAnswer in
     let ls : c.into_iter-lock-iterator.result.rest.items ≡ c.args.locks.items = search rules in
     let ps : c.into_iter-passes.result.rest.items ≡ c.args.passes.items = search rules in
-    subst (λ (x : List K × List P). Closing g.B.Bay.seen g.D.Disk.seen c.args.locks.items x.0 x.1 c.args.bay.now c.args.bay.now) (λ i. (sym ls i, sym ps i))
+    subst (λ (x : List K × List P). Closing g.B.Bay.seen g.D.Disk.seen c.args.locks.items x.0 c.args.passes.items x.1 c.args.bay.now c.args.bay.now) (λ i. (sym ls i, sym ps i))
     (closing_first g.B.Bay.seen g.D.Disk.seen c.args.locks.items c.args.passes.items c.args.bay.now c.requires.all.0 c.requires.all.1 c.requires.all.2)
 
 pub put_back-requires-clause-named : goal.put_back-requires-clause-named
 put_back-requires-clause-named g c =
     let is : c.loop-lock.lock-iterator.rest.items ≡ c.in-Some.lock ∷ c.next.new.self.rest.items = c.in-Some.ensures.steps.0 in
     let has : c.loop-lock.passes.rest.items ≡ c.in-Some-next.pass ∷ c.next-in-loop-lock.new.self.rest.items = search rules in
-    closing_named g.B.Bay.seen g.D.Disk.seen c.args.locks.items c.loop-lock.lock-iterator.rest.items c.next.new.self.rest.items c.loop-lock.passes.rest.items
+    closing_named g.B.Bay.seen g.D.Disk.seen c.args.locks.items c.loop-lock.lock-iterator.rest.items c.next.new.self.rest.items c.args.passes.items c.loop-lock.passes.rest.items
     c.next-in-loop-lock.new.self.rest.items c.in-Some.lock c.in-Some-next.pass c.args.bay.now c.loop-lock.bay c.loop-lock.invariant is has c.close.result
     c.close.ensures.left c.requires.named
 
@@ -28,7 +28,7 @@ pub put_back-requires-clause-apart : goal.put_back-requires-clause-apart
 put_back-requires-clause-apart g c =
     let is : c.loop-lock.lock-iterator.rest.items ≡ c.in-Some.lock ∷ c.next.new.self.rest.items = c.in-Some.ensures.steps.0 in
     let has : c.loop-lock.passes.rest.items ≡ c.in-Some-next.pass ∷ c.next-in-loop-lock.new.self.rest.items = search rules in
-    closing_apart g.B.Bay.seen g.D.Disk.seen c.args.locks.items c.loop-lock.lock-iterator.rest.items c.next.new.self.rest.items c.loop-lock.passes.rest.items
+    closing_apart g.B.Bay.seen g.D.Disk.seen c.args.locks.items c.loop-lock.lock-iterator.rest.items c.next.new.self.rest.items c.args.passes.items c.loop-lock.passes.rest.items
     c.next-in-loop-lock.new.self.rest.items c.in-Some.lock c.in-Some-next.pass c.args.bay.now c.loop-lock.bay c.loop-lock.invariant is has c.close.result
     c.close.ensures.left c.requires.apart
 
@@ -36,7 +36,7 @@ pub put_back-requires-clause-out : goal.put_back-requires-clause-out
 put_back-requires-clause-out g c =
     let is : c.loop-lock.lock-iterator.rest.items ≡ c.in-Some.lock ∷ c.next.new.self.rest.items = c.in-Some.ensures.steps.0 in
     let has : c.loop-lock.passes.rest.items ≡ c.in-Some-next.pass ∷ c.next-in-loop-lock.new.self.rest.items = search rules in
-    closing_out g.B.Bay.seen g.D.Disk.seen c.args.locks.items c.loop-lock.lock-iterator.rest.items c.next.new.self.rest.items c.loop-lock.passes.rest.items
+    closing_out g.B.Bay.seen g.D.Disk.seen c.args.locks.items c.loop-lock.lock-iterator.rest.items c.next.new.self.rest.items c.args.passes.items c.loop-lock.passes.rest.items
     c.next-in-loop-lock.new.self.rest.items c.in-Some.lock c.in-Some-next.pass c.args.bay.now c.loop-lock.bay c.loop-lock.invariant is has c.close.result
     c.close.ensures.left c.requires.apart c.requires.out
 
@@ -44,7 +44,7 @@ pub loop-lock-preserved : goal.loop-lock-preserved
 loop-lock-preserved g c =
     let is : c.loop-lock.lock-iterator.rest.items ≡ c.in-Some.lock ∷ c.next.new.self.rest.items = c.in-Some.ensures.steps.0 in
     let has : c.loop-lock.passes.rest.items ≡ c.in-Some-next.pass ∷ c.next-in-loop-lock.new.self.rest.items = search rules in
-    closing_on g.B.Bay.seen g.D.Disk.seen c.args.locks.items c.loop-lock.lock-iterator.rest.items c.next.new.self.rest.items c.loop-lock.passes.rest.items
+    closing_on g.B.Bay.seen g.D.Disk.seen c.args.locks.items c.loop-lock.lock-iterator.rest.items c.next.new.self.rest.items c.args.passes.items c.loop-lock.passes.rest.items
     c.next-in-loop-lock.new.self.rest.items c.in-Some.lock c.in-Some-next.pass c.args.bay.now c.loop-lock.bay c.loop-lock.invariant is has c.close.result
     c.close.ensures.left c.put_back.new.bay c.close.ensures.account c.put_back.ensures
 
@@ -52,5 +52,5 @@ pub returns : goal.returns
 returns g c =
     let zero : length c.loop-lock.lock-iterator.rest.items ≡ 0 = omega (arith, c.loop-lock.lock-iterator.rest.ok, c.in-None.ensures.steps.0) in
     let none : c.loop-lock.lock-iterator.rest.items ≡ [] = nil_from_length c.loop-lock.lock-iterator.rest.items zero in
-    closing_all g.B.Bay.seen g.D.Disk.seen c.args.locks.items c.loop-lock.lock-iterator.rest.items c.loop-lock.passes.rest.items c.args.bay.now c.loop-lock.bay
+    closing_all g.B.Bay.seen g.D.Disk.seen c.args.locks.items c.loop-lock.lock-iterator.rest.items c.args.passes.items c.loop-lock.passes.rest.items c.args.bay.now c.loop-lock.bay
     c.loop-lock.invariant none

@@ -4,7 +4,7 @@ use Rattle.broker_run.specs.Homes.{IsHome}
 use Rattle.broker_run.proofs.jobs.start_workers.Given as goal
 
 abbrev pub invariant-loop-row : goal.invariant-loop-row
-invariant-loop-row g l = AllByRecursion (IsHome g.B.Naming.shared) l.passes.items × (g.P.Spawner.faults l.fn.spawner ≤ g.P.Spawner.faults l.spawner)
+invariant-loop-row g l = AllByRecursion (IsHome g.D.Disk.seen g.K.Link.left g.K.Link.held g.C.Clock.told g.B.Naming.shared) l.passes.items × (g.P.Spawner.faults l.fn.spawner ≤ g.P.Spawner.faults l.spawner)
 
 abbrev pub decreases-loop-row : goal.decreases-loop-row
 decreases-loop-row g l = vec_len l.passes

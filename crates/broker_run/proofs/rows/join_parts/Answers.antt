@@ -2,16 +2,16 @@ use Rattle.std.proofs.Common.{rules, ◌≡◌, ◌+◌, ◌∷◌, ◌++◌, []
 use Rattle.shard_lock.specs.Passes.{LockParts, PassParts, joined}
 use Rattle.broker_shards.specs.Hosts.{Host}
 use Rattle.broker_shards.specs.declared.part.PartEvent.{PartEvent}
-use Rattle.broker_run.specs.Rows.{StandsFor}
+use Rattle.broker_run.specs.Rows.{StandsAmong}
 use Rattle.broker_run.specs.Shared.{PartAnswer}
-use Rattle.broker_run.proofs.Lines.{Fronts, Mixed, fronts_all, fronts_pop, fronts_step, fronts_within, joined_stands, mixed_all, mixed_at, mixed_set, mixed_step, mixed_within, zip_length}
+use Rattle.broker_run.proofs.Lines.{Fronts, Mixed, fronts_all, fronts_pop, fronts_step, fronts_within, joined_among, mixed_all, mixed_at, mixed_set, mixed_step, mixed_within, zip_length}
 use Rattle.broker_run.proofs.rows.join_parts.Goals as goal
 
 pub loop-other-init : goal.loop-other-init
-loop-other-init g c = (
-  fronts_all c.args.locks.now.items c.args.others.items c.requires.others,
-  λ n z. subst (λ (k : ℕ). Mixed k n c.args.locks.now.items c.args.into.now.items) (zip_length (StandsFor 1) c.args.locks.now.items c.args.others.items c.requires.others)
-      (mixed_all n c.args.locks.now.items c.args.into.now.items z),
+loop-other-init g c = λ given n z o. (
+  fronts_all given c.args.locks.now.items c.args.others.items o,
+  subst (λ (k : ℕ). Mixed given k n c.args.locks.now.items c.args.into.now.items) (zip_length (StandsAmong given 1) c.args.locks.now.items c.args.others.items o)
+      (mixed_all given n c.args.locks.now.items c.args.into.now.items z),
 )
 
 pub index-requires : goal.index-requires
@@ -24,8 +24,11 @@ index-requires g c =
     let k : ℕ = c.len-place.result in
     let e : k ≡ length qs = search rules in
     let is : os ≡ qs ++ c.in-Some.other ∷ [] = search rules in
-    let f : Fronts (suc k) ls (qs ++ c.in-Some.other ∷ []) = fronts_step k ls os qs c.in-Some.other is e c.loop-other.invariant.0 in
-    let lt = fronts_within (suc k) ls (qs ++ c.in-Some.other ∷ []) f in omega (arith, lt)
+    let given : List P = c.requires.0 in
+    let n : ℕ = c.requires.1 in
+    let i = c.loop-other.invariant given n c.requires.2 c.requires.3 in
+    let f : Fronts given (suc k) ls (qs ++ c.in-Some.other ∷ []) = fronts_step given k ls os qs c.in-Some.other is e i.0 in
+    let lt = fronts_within given (suc k) ls (qs ++ c.in-Some.other ∷ []) f in omega (arith, lt)
 
 pub index_mut-requires : goal.index_mut-requires
 index_mut-requires g c =
@@ -37,11 +40,13 @@ index_mut-requires g c =
     let k : ℕ = c.len-place.result in
     let e : k ≡ length qs = search rules in
     let is : os ≡ qs ++ c.in-Some.other ∷ [] = search rules in
-    let f : Fronts (suc k) ls (qs ++ c.in-Some.other ∷ []) = fronts_step k ls os qs c.in-Some.other is e c.loop-other.invariant.0 in
-    let n : ℕ = c.requires.into.0 in
-    let m : Mixed (suc k) n ls ps = mixed_step k ls os qs c.in-Some.other is e n ps (c.loop-other.invariant.1 n c.requires.into.1) in
-    let lt = fronts_within (suc k) ls (qs ++ c.in-Some.other ∷ []) f in
-    let same : length ls ≡ length ps = mixed_within (suc k) n ls ps m in
+    let given : List P = c.requires.0 in
+    let n : ℕ = c.requires.1 in
+    let i = c.loop-other.invariant given n c.requires.2 c.requires.3 in
+    let f : Fronts given (suc k) ls (qs ++ c.in-Some.other ∷ []) = fronts_step given k ls os qs c.in-Some.other is e i.0 in
+    let m : Mixed given (suc k) n ls ps = mixed_step given k ls os qs c.in-Some.other is e n ps i.1 in
+    let lt = fronts_within given (suc k) ls (qs ++ c.in-Some.other ∷ []) f in
+    let same : length ls ≡ length ps = mixed_within given (suc k) n ls ps m in
     let long : length c.loop-other.into.items ≡ c.loop-other.into.len = search rules in
     omega (arith, lt, same, long)
 
@@ -55,15 +60,17 @@ join-requires g c =
     let k : ℕ = c.len-place.result in
     let e : k ≡ length qs = search rules in
     let is : os ≡ qs ++ c.in-Some.other ∷ [] = search rules in
-    let f : Fronts (suc k) ls (qs ++ c.in-Some.other ∷ []) = fronts_step k ls os qs c.in-Some.other is e c.loop-other.invariant.0 in
-    let n : ℕ = c.requires.into.0 in
-    let m : Mixed (suc k) n ls ps = mixed_step k ls os qs c.in-Some.other is e n ps (c.loop-other.invariant.1 n c.requires.into.1) in
-    let a = mixed_at k n ls ps c.index.result.now c.index_mut.result.now m c.index.ensures c.index_mut.ensures.value in
-    let b = fronts_pop k ls qs c.index.result.now c.in-Some.other f (sym e) c.index.ensures in
-    record { of = (a.0, b.1.0) }
+    let given : List P = c.requires.0 in
+    let n : ℕ = c.requires.1 in
+    let i = c.loop-other.invariant given n c.requires.2 c.requires.3 in
+    let f : Fronts given (suc k) ls (qs ++ c.in-Some.other ∷ []) = fronts_step given k ls os qs c.in-Some.other is e i.0 in
+    let m : Mixed given (suc k) n ls ps = mixed_step given k ls os qs c.in-Some.other is e n ps i.1 in
+    let a = mixed_at given k n ls ps c.index.result.now c.index_mut.result.now m c.index.ensures c.index_mut.ensures.value in
+    let b = fronts_pop given k ls qs c.index.result.now c.in-Some.other f (sym e) c.index.ensures in
+    record { of = (a.0.0, b.1.0.0) }
 
 pub loop-other-preserved : goal.loop-other-preserved
-loop-other-preserved g c =
+loop-other-preserved g c = λ given n z o.
     let P : Type 0 = PassParts (Host g.row.D.Denot) PartEvent PartAnswer in
     let ls : List (LockParts (Host g.row.D.Denot)) = c.args.locks.now.items in
     let os : List P = c.loop-other.others.items in
@@ -72,14 +79,15 @@ loop-other-preserved g c =
     let k : ℕ = c.len-place.result in
     let e : k ≡ length qs = search rules in
     let is : os ≡ qs ++ c.in-Some.other ∷ [] = search rules in
-    let f : Fronts (suc k) ls (qs ++ c.in-Some.other ∷ []) = fronts_step k ls os qs c.in-Some.other is e c.loop-other.invariant.0 in
-    let b = fronts_pop k ls qs c.index.result.now c.in-Some.other f (sym e) c.index.ensures in
-    let both : c.join.new.into ≡ joined c.index_mut.result.now c.in-Some.other = c.join.ensures.both in (
-      subst (λ (j : ℕ). Fronts j ls qs) e b.0,
-      λ n z.
-          let m : Mixed (suc k) n ls ps = mixed_step k ls os qs c.in-Some.other is e n ps (c.loop-other.invariant.1 n z) in
-          let a = mixed_at k n ls ps c.index.result.now c.index_mut.result.now m c.index.ensures c.index_mut.ensures.value in
-          subst (λ (j : ℕ). Mixed j n ls (slice_set ps k c.join.new.into)) e
-          (mixed_set k n ls ps c.index.result.now c.join.new.into m c.index.ensures
-          (subst (λ (x : P). StandsFor (n + 1) c.index.result.now x) (sym both) (joined_stands n c.index.result.now c.index_mut.result.now c.in-Some.other a b.1))),
+    let i = c.loop-other.invariant given n z o in
+    let f : Fronts given (suc k) ls (qs ++ c.in-Some.other ∷ []) = fronts_step given k ls os qs c.in-Some.other is e i.0 in
+    let b = fronts_pop given k ls qs c.index.result.now c.in-Some.other f (sym e) c.index.ensures in
+    let both : c.join.new.into ≡ joined c.index_mut.result.now c.in-Some.other = c.join.ensures.both in
+    let m : Mixed given (suc k) n ls ps = mixed_step given k ls os qs c.in-Some.other is e n ps i.1 in
+    let a = mixed_at given k n ls ps c.index.result.now c.index_mut.result.now m c.index.ensures c.index_mut.ensures.value in (
+      subst (λ (j : ℕ). Fronts given j ls qs) e b.0,
+      subst (λ (j : ℕ). Mixed given j n ls (slice_set ps k c.join.new.into)) e
+          (mixed_set given k n ls ps c.index.result.now c.join.new.into m c.index.ensures
+          (subst (λ (x : P). StandsAmong given (n + 1) c.index.result.now x) (sym both)
+          (joined_among given n c.index.result.now c.index_mut.result.now c.in-Some.other a b.1))),
     )

@@ -4,11 +4,11 @@ use Rattle.std.specs.List.{AllByRecursion}
 use Rattle.shard_lock.specs.Passes.{LockParts}
 use Rattle.broker_shards.specs.Hosts.{Host}
 use Rattle.broker_run.specs.Rows.{RowOf}
-use Rattle.broker_run.proofs.Lines.{all_snoc, map_snoc, new_single}
+use Rattle.broker_run.proofs.Lines.{all_snoc, map_snoc, new_passes}
 use Rattle.broker_run.proofs.rows.lock_parts.Goals as goal
 
 pub spread-requires-clause-passes : goal.spread-requires-clause-passes
-spread-requires-clause-passes g c = new_single c.in_ok-lock.lock 0 c.in_ok-lock.passes.items c.in_ok-lock.ensures.passes.0
+spread-requires-clause-passes g c = new_passes c.in_ok-lock.lock 0 c.in_ok-lock.passes.items c.in_ok-lock.ensures.passes.0
 
 pub loop-host-preserved : goal.loop-host-preserved
 loop-host-preserved g c =

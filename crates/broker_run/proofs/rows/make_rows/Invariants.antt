@@ -1,10 +1,10 @@
 use Rattle.std.proofs.Common.{◌≡◌, ◌+◌, [], length, vec_len}
 use Rattle.std.specs.List.{AllByRecursion}
-use Rattle.broker_run.specs.Rows.{RowOf, StandsFor}
+use Rattle.broker_run.specs.Rows.{IsNew, RowOf}
 use Rattle.broker_run.proofs.rows.make_rows.Given as goal
 
 abbrev pub invariant-loop-member : goal.invariant-loop-member
-invariant-loop-member g l = AllByRecursion (StandsFor 1 l.members) l.member_passes.items × AllByRecursion (StandsFor 1 l.foreign) l.foreign_passes.items
+invariant-loop-member g l = AllByRecursion (IsNew l.members) l.member_passes.items × AllByRecursion (IsNew l.foreign) l.foreign_passes.items
     × (length l.foreign_passes.items ≡ length l.member_passes.items) × AllByRecursion (RowOf [] l.members l.foreign) l.rows.items
     × (length l.rows.items + length l.member_passes.items ≡ length l.fn.member_passes.items)
 

@@ -3,7 +3,7 @@ use Rattle.std.specs.List.{AllByRecursion}
 use Rattle.shard_lock.specs.Passes.{LockParts, PassParts}
 use Rattle.broker_shards.specs.Hosts.{Host}
 use Rattle.broker_shards.specs.declared.part.PartEvent.{PartEvent}
-use Rattle.broker_run.specs.Rows.{RowOf, StandsFor}
+use Rattle.broker_run.specs.Rows.{IsNew, RowOf}
 use Rattle.broker_run.specs.Shared.{PartAnswer, PassesParts}
 use Rattle.broker_run.proofs.Lines.{all_front, all_last, all_snoc, row_with}
 use Rattle.broker_run.proofs.rows.spread.Goals as goal
@@ -20,16 +20,16 @@ loop-row-preserved g c =
     let rows : c.loop-row.rows.items ≡ rs ++ c.in-Some.row ∷ [] = search rules in
     let passes : c.loop-row.passes.items ≡ ps ++ c.in-Some-pop.pass ∷ [] = search rules in
     let all_rows : AllByRecursion R (rs ++ c.in-Some.row ∷ []) = subst (λ l. AllByRecursion R l) rows i.0 in
-    let all : AllByRecursion (StandsFor 1 c.args.lock.now) (ps ++ c.in-Some-pop.pass ∷ []) = subst (λ l. AllByRecursion (StandsFor 1 c.args.lock.now) l) passes i.1 in
+    let all : AllByRecursion (IsNew c.args.lock.now) (ps ++ c.in-Some-pop.pass ∷ []) = subst (λ l. AllByRecursion (IsNew c.args.lock.now) l) passes i.1 in
     let q : PassesParts D = c.in_ok-with.field-0 in
     let parts : q.parts ≡ c.in-Some.row.parts ++ c.in-Some-pop.pass ∷ [] = search rules in
     let members : q.members ≡ c.in-Some.row.members = search rules in
     let foreign : q.foreign ≡ c.in-Some.row.foreign = search rules in
     let row : Q q = row_with ls c.args.lock.now c.args.members.now c.args.foreign.now c.in-Some.row q c.in-Some-pop.pass
-    (all_last R rs c.in-Some.row all_rows) (all_last (StandsFor 1 c.args.lock.now) ps c.in-Some-pop.pass all) parts members foreign in
+    (all_last R rs c.in-Some.row all_rows) (all_last (IsNew c.args.lock.now) ps c.in-Some-pop.pass all) parts members foreign in
     let pushed : c.push.new.self.items ≡ c.loop-row.out.items ++ q ∷ [] = search rules in (
       all_front R rs c.in-Some.row all_rows,
-      all_front (StandsFor 1 c.args.lock.now) ps c.in-Some-pop.pass all,
+      all_front (IsNew c.args.lock.now) ps c.in-Some-pop.pass all,
       search rules,
       subst (λ l. AllByRecursion Q l) (sym pushed) (all_snoc Q c.loop-row.out.items q i.3 row),
       search rules,

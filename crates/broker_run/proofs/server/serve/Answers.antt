@@ -1,7 +1,7 @@
 use Rattle.std.proofs.Common.{subst}
 use Rattle.broker_run.specs.Closing.{Closes}
 use Rattle.broker_run.specs.Shared.{SharedParts}
-use Rattle.broker_run.proofs.Openings.{no_memory_found}
+use Rattle.broker_run.specs.Working.{HasWorked}
 use Rattle.broker_run.proofs.Servers.{serves, told_on}
 use Rattle.broker_run.proofs.Whole.{hosts_all, whole_of}
 use Rattle.broker_run.proofs.server.serve.Goals as goal
@@ -12,8 +12,10 @@ serve_links-requires-clause-hosts g c κs within =
 
 pub returns-clause-serves : goal.returns-clause-serves
 returns-clause-serves g c = (
-  serves g.B.Bay.seen g.D.Disk.seen c.args.conf c.args.bay.now c.open_shared.new.bay c.close_shared.new.bay c.in-Ok.opened.0 c.in-Ok.ensures.opens.0
-      c.in-Ok.ensures.opens.1 (subst (λ (s : SharedParts g.row.D.Denot). Closes g.B.Bay.seen g.D.Disk.seen s c.open_shared.new.bay c.close_shared.new.bay)
+  serves g.B.Bay.seen g.D.Disk.seen (HasWorked g.D.Disk.seen g.L.L.Link.left g.L.L.Link.held g.C.Clock.told) c.args.conf c.args.bay.now
+      c.open_shared.new.bay c.close_shared.new.bay c.in-Ok.opened.0 c.in-Ok.ensures.opens.0 c.in-Ok.ensures.opens.1 c.open_shared.ensures.told
+      c.in-Some.passes.items c.in-Some.ensures.worked
+      (subst (λ (s : SharedParts g.row.D.Denot). Closes g.B.Bay.seen g.D.Disk.seen s c.in-Some.passes.items c.open_shared.new.bay c.close_shared.new.bay)
       c.in-Some.ensures.shared c.close_shared.ensures),
   c.in-Some.ensures.end,
 )

@@ -5,7 +5,8 @@ use Rattle.broker_run.proofs.shared.gather.Given as goal
 
 abbrev pub invariant-loop-other : goal.invariant-loop-other
 invariant-loop-other g l = (seats : ℕ) → AreAll l.initial.shared seats l.fn.passes.items
-    → AllByRecursion (IsRow 1 l.initial.shared) l.passes.items × ((n : ℕ) × IsRow n l.initial.shared l.into × (n + length l.passes.items ≡ seats))
+    → AllByRecursion (IsRow l.fn.passes.items 1 l.initial.shared) l.passes.items
+    × ((n : ℕ) × IsRow l.fn.passes.items n l.initial.shared l.into × (n + length l.passes.items ≡ seats))
 
 abbrev pub decreases-loop-other : goal.decreases-loop-other
 decreases-loop-other g l = goal.left-loop-other g l

@@ -1,4 +1,5 @@
 use Rattle.std.proofs.Common.{refl}
+use Rattle.broker_run.specs.Working.{HasWorked}
 use Rattle.share_top.specs.Changes.{output_change}
 use Rattle.share_top.specs.Servers.{listener_change, spawner_change}
 use Rattle.share_top.proofs.Servers.{is_none_out, none_is_out, not_damaged, not_device, served, unserved, unserved_back, unserved_sound, unserved_whole}
@@ -9,7 +10,7 @@ serve-requires-clause-out g c κs within = is_none_out g.B.Bay.seen c.args.bay.n
 
 pub returns-in-Refused-clause-serve : goal.returns-in-Refused-clause-serve
 returns-in-Refused-clause-serve g c =
-    unserved g.B.Bay.seen g.D.Disk.seen c.args.bay.now c.serve.new.bay c.args.words
+    unserved g.B.Bay.seen g.D.Disk.seen (HasWorked g.D.Disk.seen g.L.L.Link.left g.L.L.Link.held g.C.Clock.told) c.args.bay.now c.serve.new.bay c.args.words
     (output_change g.O.Sink.held g.O.Sink.faults c.args.output.now c.refuse.new.output)
     (listener_change g.L.Listener.given g.L.Listener.done g.L.Listener.faults c.args.listener.now c.serve.new.listener)
     (spawner_change g.P.Spawner.faults c.args.spawner.now c.serve.new.spawner) c.refuse.result
@@ -17,7 +18,7 @@ returns-in-Refused-clause-serve g c =
 
 pub returns-in-Refused-clause-back : goal.returns-in-Refused-clause-back
 returns-in-Refused-clause-back g c =
-    unserved_back g.B.Bay.seen g.D.Disk.seen c.args.bay.now c.serve.new.bay c.args.words
+    unserved_back g.B.Bay.seen g.D.Disk.seen (HasWorked g.D.Disk.seen g.L.L.Link.left g.L.L.Link.held g.C.Clock.told) c.args.bay.now c.serve.new.bay c.args.words
     (output_change g.O.Sink.held g.O.Sink.faults c.args.output.now c.refuse.new.output)
     (listener_change g.L.Listener.given g.L.Listener.done g.L.Listener.faults c.args.listener.now c.serve.new.listener)
     (spawner_change g.P.Spawner.faults c.args.spawner.now c.serve.new.spawner) c.refuse.result
@@ -25,7 +26,7 @@ returns-in-Refused-clause-back g c =
 
 pub returns-in-Refused-clause-recovers : goal.returns-in-Refused-clause-recovers
 returns-in-Refused-clause-recovers g c =
-    unserved_whole g.B.Bay.seen g.D.Disk.seen c.args.bay.now c.serve.new.bay c.args.words
+    unserved_whole g.B.Bay.seen g.D.Disk.seen (HasWorked g.D.Disk.seen g.L.L.Link.left g.L.L.Link.held g.C.Clock.told) c.args.bay.now c.serve.new.bay c.args.words
     (output_change g.O.Sink.held g.O.Sink.faults c.args.output.now c.refuse.new.output)
     (listener_change g.L.Listener.given g.L.Listener.done g.L.Listener.faults c.args.listener.now c.serve.new.listener)
     (spawner_change g.P.Spawner.faults c.args.spawner.now c.serve.new.spawner) c.refuse.result
@@ -33,7 +34,7 @@ returns-in-Refused-clause-recovers g c =
 
 pub returns-in-Refused-clause-sound : goal.returns-in-Refused-clause-sound
 returns-in-Refused-clause-sound g c =
-    unserved_sound g.B.Bay.seen g.D.Disk.seen c.args.bay.now c.serve.new.bay c.args.words
+    unserved_sound g.B.Bay.seen g.D.Disk.seen (HasWorked g.D.Disk.seen g.L.L.Link.left g.L.L.Link.held g.C.Clock.told) c.args.bay.now c.serve.new.bay c.args.words
     (output_change g.O.Sink.held g.O.Sink.faults c.args.output.now c.refuse.new.output)
     (listener_change g.L.Listener.given g.L.Listener.done g.L.Listener.faults c.args.listener.now c.serve.new.listener)
     (spawner_change g.P.Spawner.faults c.args.spawner.now c.serve.new.spawner) c.refuse.result
@@ -41,7 +42,7 @@ returns-in-Refused-clause-sound g c =
 
 pub returns-in-Ended-clause-serve : goal.returns-in-Ended-clause-serve
 returns-in-Ended-clause-serve g c =
-    served g.B.Bay.seen g.D.Disk.seen c.args.bay.now c.serve.new.bay c.args.words
+    served g.B.Bay.seen g.D.Disk.seen (HasWorked g.D.Disk.seen g.L.L.Link.left g.L.L.Link.held g.C.Clock.told) c.args.bay.now c.serve.new.bay c.args.words
     (output_change g.O.Sink.held g.O.Sink.faults c.args.output.now c.args.output.now)
     (listener_change g.L.Listener.given g.L.Listener.done g.L.Listener.faults c.args.listener.now c.serve.new.listener)
     (spawner_change g.P.Spawner.faults c.args.spawner.now c.serve.new.spawner) c.status_of.result

@@ -5,7 +5,8 @@ use Rattle.broker_model.specs.Machine.{Machine}
 use Rattle.broker_core.specs.declared.fault.CoreOpen.TheVariants.{Damaged, Device, Bay}
 use Rattle.broker_core.specs.Bays.{IsFirst}
 use Rattle.broker_core.specs.Cores.{IsCore, core_of, state_of}
-use Rattle.broker_core.specs.Hosts.{parts_of}
+use Rattle.broker_core.specs.Hosts.{IsFreshForeign, parts_of}
+use Rattle.broker_core.specs.declared.slot.ForeignSlot.{ForeignSlot}
 use Rattle.broker_model.specs.Hosted.{hosted_of}
 use Rattle.broker_core.proofs.Partitions.{takes_fresh}
 use Rattle.broker_core.proofs.Stepping.{err_same}
@@ -114,8 +115,10 @@ returns-in-Ok-clause-open g c = (
 )
 
 pub returns-in-Ok-clause-fresh : goal.returns-in-Ok-clause-fresh
-returns-in-Ok-clause-fresh g c = let t = c.in-Ok.ensures.ok in
-    takes_fresh g.B.Bay.seen g.D.Disk.seen (hosted_of c.args.conf) c.args.bay.now (parts_of c.in-Ok.hosts).parts t.mid t.parts
+returns-in-Ok-clause-fresh g c = let t = c.in-Ok.ensures.ok in (
+      takes_fresh g.B.Bay.seen g.D.Disk.seen (hosted_of c.args.conf) c.args.bay.now (parts_of c.in-Ok.hosts).parts t.mid t.parts,
+      subst (λ (s : ForeignSlot g.row.D.Denot). IsFreshForeign g.D.Disk.seen s) (sym t.foreign.is_open) t.foreign.fresh,
+    )
 
 pub returns-in-Ok-clause-taken : goal.returns-in-Ok-clause-taken
 returns-in-Ok-clause-taken g c = all_out g.B.Bay.seen g.D.Disk.seen
