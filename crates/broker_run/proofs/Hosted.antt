@@ -1,12 +1,11 @@
 -- A connection that is served asks hosted partitions alone.
-use Rattle.std.proofs.Common.{◌≡◌, ◌≢◌, ◌≤◌, ℕ, List, [], ◌∷◌, Option, Bool, sym, subst, arith, length}
+use Rattle.std.proofs.Common.{◌≡◌, ◌≢◌, ◌≤◌, ℕ, List, [], ◌∷◌, ◌++◌, Option, Bool, sym, subst, arith, length}
 use Rattle.edge_io.specs.Views.{DiskView}
 use Rattle.topic_conf.specs.Configs.{ConfigParts}
 use Rattle.call_fold.specs.declared.part.Part.{Part}
 use Rattle.conn_core.specs.Conns.{ConnParts, new_conn}
 use Rattle.conn_core.specs.HostedShards.{AreHostedIn, IsHostedPart, NextIsHosted}
 use Rattle.conn_core.specs.Streams.{Act, conn_after, conn_after_all}
-use Rattle.conn_core.specs.Streams.Act.{asks, ends}
 use Rattle.conn_core.specs.Turning.{turn}
 use Rattle.conn_core.specs.declared.next.Next.TheVariants.{Ask}
 use Rattle.conn_core.proofs.HostedTurns.{asks_hosted_shards}
@@ -15,7 +14,8 @@ use Rattle.broker_run.specs.declared.connection.Ended.TheVariants.{Peer, Closed,
 use Rattle.broker_run.specs.declared.connection.Turned.TheVariants.{Closes}
 use Rattle.broker_run.specs.Shared.{SharedParts, PassesParts}
 use Rattle.broker_run.specs.Acting.{HostsAll}
-use Rattle.broker_run.specs.Serving.{ClosesBy, Goes, HasEndCause, HasTurnCause, Quiet, Scene, Talks}
+use Rattle.broker_run.specs.Moving.{acts_of}
+use Rattle.broker_run.specs.Serving.{GoesOn, HasEndCause, HasTurnCause, Quiet, Scene, Talks}
 
 module _ (conf : ConfigParts) where
   after_all : (acts : List Act) (c : ConnParts) → AreHostedIn conf c → AreHostedIn conf (conn_after_all conf acts c)
@@ -31,22 +31,16 @@ module _ (conf : ConfigParts) where
   part_hosted shared c part all h is =
       subst (λ (n : ℕ). IsHostedPart n part) (sym all) (subst (NextIsHosted conf) (sym is) ((asks_hosted_shards conf).tells c h))
 
-  pub closed_hosted : (ended : Ended) (c d : ConnParts) → ClosesBy conf ended c d → AreHostedIn conf c → AreHostedIn conf d
-  closed_hosted Peer c d k h = subst (AreHostedIn conf) (sym k.1) ((asks_hosted_shards conf).keeps ends c h)
-  closed_hosted (Closed cause) c d k h = subst (AreHostedIn conf) (sym k.1) ((asks_hosted_shards conf).keeps asks c h)
-  closed_hosted Read c d k h = subst (AreHostedIn conf) (sym k.1) ((asks_hosted_shards conf).keeps ends c h)
-  closed_hosted Write c d k h = subst (AreHostedIn conf) (sym k) ((asks_hosted_shards conf).keeps ends c h)
-  closed_hosted NoMemory c d k h = absurd k
-
 module _ {D : Type 0} (conf : ConfigParts) (seen : D → DiskView) (shared : SharedParts D) where
-  pub goes_hosted : (w : Bool) (a b : Scene D) → Goes conf seen shared w a b → AreHostedIn conf a.conn → AreHostedIn conf b.conn
-  goes_hosted w a b g h = subst (AreHostedIn conf) (sym g.conn) (after_all conf g.acts a.conn h)
+  pub goes_hosted : (a b : Scene D) → GoesOn conf seen shared a b → AreHostedIn conf a.conn → AreHostedIn conf b.conn
+  goes_hosted a b g h = subst (AreHostedIn conf) (sym g.goes.makes.conn) (after_all conf (acts_of g.moves) a.conn h)
 
   pub quiet_hosted : (c d : ConnParts) (p q : PassesParts D) (t u : Option (List ℕ)) → Quiet conf seen shared c d p q t u → AreHostedIn conf c → AreHostedIn conf d
-  quiet_hosted c d p q t u k h = subst (AreHostedIn conf) (sym k.conn) (after_all conf k.acts c h)
+  quiet_hosted c d p q t u k h = subst (AreHostedIn conf) (sym k.makes.conn) (after_all conf (acts_of k.moves) c h)
 
   pub talks_hosted : (ended : Ended) (a b : Scene D) → Talks conf seen shared ended a b → AreHostedIn conf a.conn → AreHostedIn conf b.conn
-  talks_hosted ended a b t h = closed_hosted conf ended t.0 b.conn t.3 (goes_hosted _ a _ t.1 h)
+  talks_hosted ended a b t h =
+      subst (AreHostedIn conf) (sym t.goes.makes.conn) (after_all conf (acts_of (t.talk ++ t.closing ∷ [])) a.conn h)
 
   -- serving a connection up to where it closed doesn't end for want of memory
   pub talks_ends : (ended : Ended) (a b : Scene D) → Talks conf seen shared ended a b → ended ≢ NoMemory
@@ -54,7 +48,7 @@ module _ {D : Type 0} (conf : ConfigParts) (seen : D → DiskView) (shared : Sha
   talks_ends (Closed cause) a b t is = cc
   talks_ends Read a b t is = cc
   talks_ends Write a b t is = cc
-  talks_ends NoMemory a b t is = t.2
+  talks_ends NoMemory a b t is = t.closes
 
 -- ---- causes
 

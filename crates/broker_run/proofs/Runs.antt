@@ -1,320 +1,358 @@
 -- A run of a connection behind another.
-use Rattle.std.proofs.Common.{◌≡◌, ◌≢◌, Some, Result, Ok, Err, IfOk, OnErr, ℕ, List, [], ◌∷◌, ◌++◌, Bool, true, false, refl, sym, ap, ◌∙◌, subst, append_assoc, append-nil, map, inl, inr}
+use Rattle.std.proofs.Common.{◌≡◌, ◌≢◌, Some, Result, Ok, Err, IfOk, OnErr, ℕ, List, [], ◌∷◌, ◌++◌, true, false, refl, sym, ap, ◌∙◌, subst, append_assoc, append-nil, map, inl, inr}
+use Rattle.std.proofs.lemmas.Grind.{flat_map-append}
 use Rattle.std.proofs.lemmas.List.{map-append}
+use Rattle.std.proofs.lemmas.List.Elements.{All-append, All-cons, All-head, All-nil, All-tail}
 use Rattle.std.proofs.KnownBytes.{Appends-trans, Appends-nil, Consumes-trans, Consumes-nil}
+use Rattle.std.specs.List.{All}
 use Rattle.std.specs.declared.option.Option.{Option}
 use Rattle.std.specs.Io.KnownBytes.{Appends, Consumes}
 use Rattle.edge_io.specs.Streams.{AppendsFront}
 use Rattle.edge_io.specs.Views.{DiskView}
 use Rattle.edge_io.specs.Serving.{TellsMore}
 use Rattle.edge_io.proofs.Telling.{tells_none, tells_then}
+use Rattle.share_model.specs.declared.close_cause.CloseCause.{CloseCause}
 use Rattle.topic_conf.specs.Configs.{ConfigParts}
 use Rattle.call_fold.specs.declared.part.Part.{Part}
+use Rattle.conn_core.specs.declared.next.Next.{Next}
+use Rattle.conn_core.specs.declared.next.Next.TheVariants.{Idle, Ask, Closed as next_closed}
 use Rattle.conn_core.specs.Conns.{ConnParts, new_conn, conn_after_bytes, conn_after_end, conn_after_reply}
-use Rattle.conn_core.specs.Streams.{Act, conn_after, conn_after_all, stream}
-use Rattle.conn_core.specs.Streams.Act.{feeds, asks, gives, ends, takes}
+use Rattle.conn_core.specs.Streams.{Act, conn_after, conn_after_all}
 use Rattle.conn_core.specs.Turning.{Waits, turn, awaited_part}
 use Rattle.broker_run.specs.declared.connection.Ended.{Ended}
 use Rattle.broker_run.specs.declared.connection.Ended.TheVariants.{Peer, Closed, Read, Write, NoMemory}
 use Rattle.broker_run.specs.declared.connection.Turned.{Turned}
 use Rattle.broker_run.specs.declared.connection.Turned.TheVariants.{Goes as Goes_on, Closes}
 use Rattle.broker_run.specs.Shared.{SharedParts, PassesParts}
-use Rattle.broker_run.specs.Telling.{exchange_of, exchanges, exchanges_at, oldest, sent, sent_at}
-use Rattle.broker_run.specs.Serving.{Asked, Done, exchange, Scene, scene, Writes, DoesAll, Goes, Breaks, Quiet, Releases, Received, Replied, NoneLeft, ClosesBy, TurnsTo, Talks, Serves, IsCut, IsServed, Stopped, is_whole}
+use Rattle.broker_run.specs.Moving.{CanAll, Done, IsIdle, IsOpen, IsOpenNext, IsQuiet, Move, acts_of, conn_after_moves, deed_of, done_by, moments_of, read_by, written_by}
+use Rattle.broker_run.specs.Moving.Move.{asks, reads, does, sends, breaks, ends}
+use Rattle.broker_run.specs.Serving.{Asked, Scene, scene, DoesAll, Makes, Goes, GoesOn, Breaks, Quiet, Releases, Received, Replied, Fails, ClosesBy, TurnsTo, Talks, Serves, IsCut, IsServed, Stopped}
 
--- ---- lists of calls
+-- ---- lists of moves
 
-pub stream_append : (xs ys : List Act) → stream (xs ++ ys) ≡ stream xs ++ stream ys
-stream_append [] ys = refl
-stream_append (feeds piece ∷ xs) ys = ap (λ (l : List ℕ). piece ++ l) (stream_append xs ys) ∙ sym (append_assoc piece (stream xs) (stream ys))
-stream_append (asks ∷ xs) ys = stream_append xs ys
-stream_append (gives answer ∷ xs) ys = stream_append xs ys
-stream_append (ends ∷ xs) ys = stream_append xs ys
-stream_append (takes ∷ xs) ys = stream_append xs ys
+abbrev acts_by : Move → List Act
+acts_by m = (deed_of m).acts
+
+abbrev parts_by : Move → List Done
+parts_by m = (deed_of m).done
+
+abbrev bytes_read : Move → List ℕ
+bytes_read m = (deed_of m).read
+
+abbrev bytes_written : Move → List ℕ
+bytes_written m = (deed_of m).written
 
 module _ (conf : ConfigParts) where
-  pub after_append : (xs ys : List Act) (c : ConnParts) → conn_after_all conf (xs ++ ys) c ≡ conn_after_all conf ys (conn_after_all conf xs c)
-  after_append [] ys c = refl
-  after_append (x ∷ xs) ys c = after_append xs ys (conn_after conf x c)
+  calls_append : (xs ys : List Act) (c : ConnParts) → conn_after_all conf (xs ++ ys) c ≡ conn_after_all conf ys (conn_after_all conf xs c)
+  calls_append [] ys c = refl
+  calls_append (x ∷ xs) ys c = calls_append xs ys (conn_after conf x c)
 
-  pub exchanges_append : (xs ys : List Act) (c : ConnParts) → exchanges conf (xs ++ ys) c ≡ exchanges conf xs c ++ exchanges conf ys (conn_after_all conf xs c)
-  exchanges_append [] ys c = refl
-  exchanges_append (x ∷ xs) ys c = ap (λ l. exchanges_at x c ++ l) (exchanges_append xs ys (conn_after conf x c))
-      ∙ sym (append_assoc (exchanges_at x c) (exchanges conf xs (conn_after conf x c)) (exchanges conf ys (conn_after_all conf xs (conn_after conf x c))))
+  pub after_append : (xs ys : List Move) (c : ConnParts) → conn_after_moves conf (xs ++ ys) c ≡ conn_after_moves conf ys (conn_after_moves conf xs c)
+  after_append xs ys c =
+      ap (λ l. conn_after_all conf l c) (flat_map-append acts_by xs ys) ∙ calls_append (acts_of xs) (acts_of ys) c
 
-  pub sent_append : (xs ys : List Act) (c : ConnParts) → sent conf (xs ++ ys) c ≡ sent conf xs c ++ sent conf ys (conn_after_all conf xs c)
-  sent_append [] ys c = refl
-  sent_append (x ∷ xs) ys c = ap (λ l. sent_at x c ++ l) (sent_append xs ys (conn_after conf x c))
-      ∙ sym (append_assoc (sent_at x c) (sent conf xs (conn_after conf x c)) (sent conf ys (conn_after_all conf xs (conn_after conf x c))))
+  pub can_append : (xs ys : List Move) (c : ConnParts) → CanAll conf xs c → CanAll conf ys (conn_after_moves conf xs c) → CanAll conf (xs ++ ys) c
+  can_append [] ys c p q = q
+  can_append (x ∷ xs) ys c p q = (
+    p.0,
+    can_append xs ys (conn_after_all conf (acts_by x) c) p.1 (subst (CanAll conf ys) (calls_append (acts_by x) (acts_of xs) c) q),
+  )
 
--- ---- bytes
+pub sends_open : (rs : List (List ℕ)) → All IsOpen (map sends rs)
+sends_open [] = All-nil IsOpen
+sends_open (r ∷ rs) = All-cons IsOpen (sends r) (map sends rs) tt (sends_open rs)
 
-pub front_after : (a b c : Option (List ℕ)) (xs ys rest : List ℕ) → Appends a b xs → AppendsFront b c ys rest → AppendsFront a c (xs ++ ys) rest
-front_after a b c xs ys rest p q = record {
-  front = xs ++ q.front;
-  parts = append_assoc xs q.front rest ∙ ap (λ (l : List ℕ). xs ++ l) q.parts;
-  grown = Appends-trans a b c xs q.front p q.grown;
-}
+-- replies are no parts, and nothing is read for them
+sends_none : (rs : List (List ℕ)) → done_by (map sends rs) ≡ []
+sends_none [] = refl
+sends_none (r ∷ rs) = sends_none rs
 
-pub writes_then : (w : Bool) (a b c : Option (List ℕ)) (xs ys : List ℕ) → Appends a b xs → Writes w b c ys → Writes w a c (xs ++ ys)
-writes_then true a b c xs ys p q = Appends-trans a b c xs ys p q
-writes_then false a b c xs ys p q = (q.0, front_after a b c xs ys q.0 p q.1)
+sends_unread : (rs : List (List ℕ)) → read_by (map sends rs) ≡ []
+sends_unread [] = refl
+sends_unread (r ∷ rs) = sends_unread rs
 
--- ---- parts
+-- what is quiet neither reads nor writes
+quiet_one_does : (m : Move) → IsQuiet m → (bytes_read m ≡ []) × (bytes_written m ≡ [])
+quiet_one_does (asks next) q = (refl, refl)
+quiet_one_does (reads piece) q = absurd q
+quiet_one_does (does done) q = (refl, refl)
+quiet_one_does (sends reply) q = absurd q
+quiet_one_does (breaks front) q = absurd q
+quiet_one_does ends q = absurd q
+
+quiet_does : (ms : List Move) → All IsQuiet ms → (read_by ms ≡ []) × (written_by ms ≡ [])
+quiet_does [] q = (refl, refl)
+quiet_does (m ∷ ms) q =
+    let one = quiet_one_does m (All-head IsQuiet m ms q) in
+    let more = quiet_does ms (All-tail IsQuiet m ms q) in
+    (ap (λ (l : List ℕ). l ++ read_by ms) one.0 ∙ more.0, ap (λ (l : List ℕ). l ++ written_by ms) one.1 ∙ more.1)
+
+-- ---- runs
 
 module _ {D : Type 0} (conf : ConfigParts) (seen : D → DiskView) (shared : SharedParts D) where
-  pub does_append : (xs ys : List Done) (a b c : PassesParts D) → DoesAll conf seen shared xs a b → DoesAll conf seen shared ys b c
+  does_append : (xs ys : List Done) (a b c : PassesParts D) → DoesAll conf seen shared xs a b → DoesAll conf seen shared ys b c
       → DoesAll conf seen shared (xs ++ ys) a c
   does_append [] ys a b c p q = subst (λ (x : PassesParts D). DoesAll conf seen shared ys x c) p q
   does_append (d ∷ ds) ys a b c p q = (p.0, p.1, does_append ds ys p.0 b c p.2 q)
 
-  pub goes_none : (a : Scene D) → Goes conf seen shared true a a
+  pub makes_then : (xs ys : List Move) (a b c : ConnParts) (o p q : PassesParts D) (s t u : Option (List ℕ))
+      → Makes conf seen shared xs a b o p s t → Makes conf seen shared ys b c p q t u → Makes conf seen shared (xs ++ ys) a c o q s u
+  makes_then xs ys a b c o p q s t u g k = record {
+    can = can_append conf xs ys a g.can (subst (CanAll conf ys) g.conn k.can);
+    conn = k.conn ∙ ap (conn_after_moves conf ys) g.conn ∙ sym (after_append conf xs ys a);
+    passes = subst (λ (l : List Done). DoesAll conf seen shared l o q) (sym (flat_map-append parts_by xs ys))
+        (does_append (done_by xs) (done_by ys) o p q g.passes k.passes);
+    moments = subst (TellsMore s u)
+        (sym (ap moments_of (flat_map-append parts_by xs ys) ∙ map-append (λ (d : Done). d.now) (done_by xs) (done_by ys)))
+        (tells_then s t u (moments_of (done_by xs)) (moments_of (done_by ys)) g.moments k.moments);
+  }
+
+  pub goes_then : (xs ys : List Move) (a b c : Scene D) → Goes conf seen shared xs a b → Goes conf seen shared ys b c → Goes conf seen shared (xs ++ ys) a c
+  goes_then xs ys a b c p q = record {
+    makes = makes_then xs ys a.conn b.conn c.conn a.passes b.passes c.passes a.told b.told c.told p.makes q.makes;
+    fed = subst (Consumes a.left c.left) (sym (flat_map-append bytes_read xs ys))
+        (Consumes-trans a.left b.left c.left (read_by xs) (read_by ys) p.fed q.fed);
+    wrote = subst (Appends a.held c.held) (sym (flat_map-append bytes_written xs ys))
+        (Appends-trans a.held b.held c.held (written_by xs) (written_by ys) p.wrote q.wrote);
+  }
+
+  pub makes_none : (c : ConnParts) (p : PassesParts D) (t : Option (List ℕ)) → Makes conf seen shared [] c c p p t t
+  makes_none c p t = record { can = tt; conn = refl; passes = refl; moments = tells_none t }
+
+  pub goes_none : (a : Scene D) → GoesOn conf seen shared a a
   goes_none a = record {
-    acts = [];
-    did = [];
-    conn = refl;
-    given = refl;
-    passes = refl;
-    fed = Consumes-nil a.left;
-    wrote = Appends-nil a.held;
-    moments = tells_none a.told;
+    moves = [];
+    unclosed = All-nil IsOpen;
+    goes = record { makes = makes_none a.conn a.passes a.told; fed = Consumes-nil a.left; wrote = Appends-nil a.held };
   }
 
-  pub goes_then : (w : Bool) (a b c : Scene D) → Goes conf seen shared true a b → Goes conf seen shared w b c → Goes conf seen shared w a c
-  goes_then w a b c p q = record {
-    acts = p.acts ++ q.acts;
-    did = p.did ++ q.did;
-    conn = q.conn ∙ ap (conn_after_all conf q.acts) p.conn ∙ sym (after_append conf p.acts q.acts a.conn);
-    given = exchanges_append conf p.acts q.acts a.conn
-        ∙ ap (λ l. l ++ exchanges conf q.acts (conn_after_all conf p.acts a.conn)) p.given
-        ∙ ap (λ l. map exchange p.did ++ l) (ap (exchanges conf q.acts) (sym p.conn) ∙ q.given)
-        ∙ sym (map-append exchange p.did q.did);
-    passes = does_append p.did q.did a.passes b.passes c.passes p.passes q.passes;
-    fed = subst (Consumes a.left c.left) (sym (stream_append p.acts q.acts)) (Consumes-trans a.left b.left c.left (stream p.acts) (stream q.acts) p.fed q.fed);
-    wrote = subst (Writes w a.held c.held)
-        (ap (λ l. sent conf p.acts a.conn ++ l) (ap (sent conf q.acts) p.conn) ∙ sym (sent_append conf p.acts q.acts a.conn))
-        (writes_then w a.held b.held c.held (sent conf p.acts a.conn) (sent conf q.acts b.conn) p.wrote q.wrote);
-    moments = subst (TellsMore a.told c.told) (sym (map-append (λ (d : Done). d.now) p.did q.did))
-        (tells_then a.told b.told c.told (map (λ (d : Done). d.now) p.did) (map (λ (d : Done). d.now) q.did) p.moments q.moments);
+  pub goes_on : (a b c : Scene D) → GoesOn conf seen shared a b → GoesOn conf seen shared b c → GoesOn conf seen shared a c
+  goes_on a b c p q = record {
+    moves = p.moves ++ q.moves;
+    unclosed = All-append IsOpen p.moves q.moves p.unclosed q.unclosed;
+    goes = goes_then p.moves q.moves a b c p.goes q.goes;
   }
 
-  pub breaks_then : (a b c : Scene D) → Goes conf seen shared true a b → Breaks conf seen shared b c → Breaks conf seen shared a c
-  breaks_then a b c p q = record { mid = q.mid; goes = goes_then true a b q.mid p q.goes; loses = q.loses }
+  pub breaks_then : (a b c : Scene D) → GoesOn conf seen shared a b → Breaks conf seen shared b c → Breaks conf seen shared a c
+  breaks_then a b c p q = record { mid = q.mid; goes = goes_on a b q.mid p q.goes; loses = q.loses }
+
+  pub talks_then : (ended : Ended) (a b c : Scene D) → GoesOn conf seen shared a b → Talks conf seen shared ended b c → Talks conf seen shared ended a c
+  talks_then ended a b c p q = record {
+    talk = p.moves ++ q.talk;
+    closing = q.closing;
+    unclosed = All-append IsOpen p.moves q.talk p.unclosed q.unclosed;
+    closes = subst (ClosesBy ended q.closing) (ap (conn_after_moves conf q.talk) p.goes.makes.conn ∙ sym (after_append conf p.moves q.talk a.conn)) q.closes;
+    goes = subst (λ (l : List Move). Goes conf seen shared l a c) (sym (append_assoc p.moves q.talk (q.closing ∷ [])))
+        (goes_then p.moves (q.talk ++ q.closing ∷ []) a b c p.goes q.goes);
+  }
 
 -- ---- replies
 
 module _ (conf : ConfigParts) where
-  pub replied_none : (c : ConnParts) (held : Option (List ℕ)) → Replied conf true c c held held
-  replied_none c held = record { acts = []; conn = refl; none = refl; unread = refl; wrote = Appends-nil held }
+  pub replied_none : (c : ConnParts) (held : Option (List ℕ)) → Replied conf c c held held
+  replied_none c held = record { replies = []; can = tt; conn = refl; wrote = Appends-nil held }
 
-  -- one more reply was taken, and this of its bytes was written
-  replied_more : (w : Bool) (a b c : ConnParts) (h i j : Option (List ℕ)) (reply : List ℕ) (others : List (List ℕ)) → Replied conf true a b h i
-      → b.replies ≡ reply ∷ others → c ≡ conn_after_reply b → Writes w i j reply → Replied conf w a c h j
-  replied_more w a b c h i j reply others p first is q = record {
-    acts = p.acts ++ takes ∷ [];
-    conn = is ∙ ap conn_after_reply p.conn ∙ sym (after_append conf p.acts (takes ∷ []) a);
-    none = exchanges_append conf p.acts (takes ∷ []) a ∙ ap (λ l. l ++ []) p.none;
-    unread = stream_append p.acts (takes ∷ []) ∙ ap (λ (l : List ℕ). l ++ []) p.unread;
-    wrote = subst (Writes w h j)
-        (ap (λ (l : List ℕ). sent conf p.acts a ++ l) (sym (append-nil reply) ∙ ap (λ l. oldest l ++ []) (sym first ∙ ap (λ (x : ConnParts). x.replies) p.conn))
-        ∙ sym (sent_append conf p.acts (takes ∷ []) a))
-        (writes_then w h i j (sent conf p.acts a) reply p.wrote q);
+  -- one more reply was taken and written
+  pub replied_then : (a b c : ConnParts) (h i j : Option (List ℕ)) (reply : List ℕ) (others : List (List ℕ)) → Replied conf a b h i
+      → b.replies ≡ reply ∷ others → c ≡ conn_after_reply b → Appends i j reply → Replied conf a c h j
+  replied_then a b c h i j reply others p first is q =
+      let sent : List Move = map sends p.replies in
+      let snoc : map sends (p.replies ++ reply ∷ []) ≡ sent ++ sends reply ∷ [] = map-append sends p.replies (reply ∷ []) in
+      let can : CanAll conf (sends reply ∷ []) b = ((others, first), tt) in
+      record {
+        replies = p.replies ++ reply ∷ [];
+        can = subst (λ (l : List Move). CanAll conf l a) (sym snoc)
+            (can_append conf sent (sends reply ∷ []) a p.can (subst (CanAll conf (sends reply ∷ [])) p.conn can));
+        conn = is ∙ ap conn_after_reply p.conn ∙ sym (after_append conf sent (sends reply ∷ []) a) ∙ ap (λ l. conn_after_moves conf l a) (sym snoc);
+        wrote = subst (Appends h j)
+            (ap (λ (l : List ℕ). written_by sent ++ l) (sym (append-nil reply)) ∙ sym (flat_map-append bytes_written sent (sends reply ∷ []))
+            ∙ ap written_by (sym snoc))
+            (Appends-trans h i j (written_by sent) reply p.wrote q);
+      }
+
+  pub replied_short : (a b c : ConnParts) (h i j : Option (List ℕ)) (reply rest : List ℕ) (others : List (List ℕ)) → Replied conf a b h i
+      → b.replies ≡ reply ∷ others → c ≡ conn_after_reply b → AppendsFront i j reply rest → Fails conf a c h j
+  replied_short a b c h i j reply rest others p first is q = record {
+    mid = b;
+    until = i;
+    replied = p;
+    front = q.front;
+    can = (rest, (others, first ∙ ap (λ (r : List ℕ). r ∷ others) (sym q.parts)));
+    conn = is;
+    wrote = q.grown;
   }
 
-  pub replied_then : (a b c : ConnParts) (h i j : Option (List ℕ)) (reply : List ℕ) (others : List (List ℕ)) → Replied conf true a b h i
-      → b.replies ≡ reply ∷ others → c ≡ conn_after_reply b → Appends i j reply → Replied conf true a c h j
-  replied_then a b c h i j reply others p first is q = replied_more true a b c h i j reply others p first is q
-
-  pub replied_short : (a b c : ConnParts) (h i j : Option (List ℕ)) (reply rest : List ℕ) (others : List (List ℕ)) → Replied conf true a b h i
-      → b.replies ≡ reply ∷ others → c ≡ conn_after_reply b → AppendsFront i j reply rest → Replied conf false a c h j
-  replied_short a b c h i j reply rest others p first is q = replied_more false a b c h i j reply others p first is (rest, q)
-
--- ---- single calls
+-- ---- single moves
 
 -- a connection that waits is asked in vain
 pub waits_stays : (conf : ConfigParts) (c : ConnParts) → Waits c → (turn conf c).conn ≡ c
 waits_stays conf c w = rw w.0 (rw w.1 refl)
 
 module _ {D : Type 0} (conf : ConfigParts) (seen : D → DiskView) (shared : SharedParts D) where
-  abbrev Gone_on : Bool → Scene D → Scene D → Type 0
-  Gone_on w a b = Goes conf seen shared w a b
-
-  pub turned_one : (c d : ConnParts) (p : PassesParts D) (l h t : Option (List ℕ)) → d ≡ (turn conf c).conn → Gone_on true (scene c p l h t) (scene d p l h t)
-  turned_one c d p l h t is = record {
-    acts = asks ∷ [];
-    did = [];
-    conn = is;
-    given = refl;
-    passes = refl;
+  pub asks_one : (next : Next) (c d : ConnParts) (p : PassesParts D) (l h t : Option (List ℕ)) → next ≡ (turn conf c).next → d ≡ (turn conf c).conn
+      → Goes conf seen shared (asks next ∷ []) (scene c p l h t) (scene d p l h t)
+  asks_one next c d p l h t tells is = record {
+    makes = record { can = (sym tells, tt); conn = is; passes = refl; moments = tells_none t };
     fed = Consumes-nil l;
     wrote = Appends-nil h;
-    moments = tells_none t;
   }
 
-  fed_one : (c d : ConnParts) (p : PassesParts D) (l m h t : Option (List ℕ)) (piece : List ℕ) → d ≡ conn_after_bytes piece c → Consumes l m piece
-      → Gone_on true (scene c p l h t) (scene d p m h t)
-  fed_one c d p l m h t piece is q = record {
-    acts = feeds piece ∷ [];
-    did = [];
-    conn = is;
-    given = refl;
-    passes = refl;
+  pub turned : (next : Next) (c d : ConnParts) (p : PassesParts D) (l h t : Option (List ℕ)) → IsOpenNext next → next ≡ (turn conf c).next
+      → d ≡ (turn conf c).conn → GoesOn conf seen shared (scene c p l h t) (scene d p l h t)
+  turned next c d p l h t stays tells is = record {
+    moves = asks next ∷ [];
+    unclosed = All-cons IsOpen (asks next) [] stays (All-nil IsOpen);
+    goes = asks_one next c d p l h t tells is;
+  }
+
+  -- a move behind what it told it does next
+  behind : (next : Next) (m : Move) (a b c : Scene D) → IsOpenNext next → IsOpen m → Goes conf seen shared (asks next ∷ []) a b → Goes conf seen shared (m ∷ []) b c
+      → GoesOn conf seen shared a c
+  behind next m a b c stays so p q = record {
+    moves = asks next ∷ m ∷ [];
+    unclosed = All-cons IsOpen (asks next) (m ∷ []) stays (All-cons IsOpen m [] so (All-nil IsOpen));
+    goes = goes_then conf seen shared (asks next ∷ []) (m ∷ []) a b c p q;
+  }
+
+  reads_one : (c d : ConnParts) (p : PassesParts D) (l m h t : Option (List ℕ)) (piece : List ℕ) → IsIdle c → d ≡ conn_after_bytes piece c → Consumes l m piece
+      → Goes conf seen shared (reads piece ∷ []) (scene c p l h t) (scene d p m h t)
+  reads_one c d p l m h t piece idle is q = record {
+    makes = record { can = (idle, tt); conn = is; passes = refl; moments = tells_none t };
     fed = subst (Consumes l m) (sym (append-nil piece)) q;
     wrote = Appends-nil h;
-    moments = tells_none t;
   }
 
-  -- it waited, and a read told the end or failed
-  read_end : (b c d : ConnParts) (p : PassesParts D) (l m h t : Option (List ℕ)) → c ≡ (turn conf b).conn → Waits b → Consumes l m []
-      → (at : ConnParts) × Gone_on true (scene b p l h t) (scene at p m h t) × (at.replies ≡ b.replies) × (at ≡ c) × Waits at
-  read_end b c d p l m h t is w r =
-      let stays : c ≡ b = is ∙ waits_stays conf b w in (
-        c,
-        record { acts = asks ∷ []; did = []; conn = is; given = refl; passes = refl; fed = r; wrote = Appends-nil h; moments = tells_none t },
-        ap (λ (x : ConnParts). x.replies) stays,
-        refl,
-        subst Waits (sym stays) w,
-      )
-
-  pub received : (turned : Turned) (b c d : ConnParts) (p : PassesParts D) (l m h t : Option (List ℕ)) → c ≡ (turn conf b).conn → Waits b
-      → Received turned c d l m → TurnsTo conf seen shared turned (scene b p l h t) (scene d p m h t)
-  received Goes_on b c d p l m h t is w r =
-      goes_then conf seen shared true (scene b p l h t) (scene c p l h t) (scene d p m h t) (turned_one b c p l h t is) (fed_one c d p l m h t r.0 r.1 r.2)
-  received (Closes Peer) b c d p l m h t is w r =
-      let e = read_end b c d p l m h t is w r.2 in (e.0, e.1, e.2, (e.4, r.1 ∙ ap conn_after_end (sym e.3)))
-  received (Closes (Closed cause)) b c d p l m h t is w r = absurd r.0
-  received (Closes Read) b c d p l m h t is w r =
-      let e = read_end b c d p l m h t is w r.2 in (e.0, e.1, e.2, (e.4, r.1 ∙ ap conn_after_end (sym e.3)))
-  received (Closes Write) b c d p l m h t is w r = absurd r.0
-  received (Closes NoMemory) b c d p l m h t is w r = absurd r.0
-
-  asked_one : (part : Part) (c d : ConnParts) (p q : PassesParts D) (l h t u : Option (List ℕ)) → awaited_part c ≡ Some part
-      → Asked conf seen shared part c d p q t u → Gone_on true (scene c p l h t) (scene d q l h u)
-  asked_one part c d p q l h t u awaits a = record {
-    acts = gives a.answer ∷ [];
-    did = record { part = part; now = a.now; answer = a.answer } ∷ [];
-    conn = a.conn;
-    given = ap (λ o. exchange_of o a.answer ++ []) awaits;
-    passes = (q, a.does, refl);
-    fed = Consumes-nil l;
+  ends_one : (c d : ConnParts) (p : PassesParts D) (l m h t : Option (List ℕ)) → IsIdle c → d ≡ conn_after_end c → Consumes l m []
+      → Goes conf seen shared (ends ∷ []) (scene c p l h t) (scene d p m h t)
+  ends_one c d p l m h t idle is q = record {
+    makes = record { can = (idle, tt); conn = is; passes = refl; moments = tells_none t };
+    fed = q;
     wrote = Appends-nil h;
-    moments = a.moment;
   }
 
-  pub asked : (part : Part) (b c d : ConnParts) (p q : PassesParts D) (l h t u : Option (List ℕ)) → c ≡ (turn conf b).conn → awaited_part c ≡ Some part
-      → Asked conf seen shared part c d p q t u → Gone_on true (scene b p l h t) (scene d q l h u)
-  asked part b c d p q l h t u is awaits a =
-      goes_then conf seen shared true (scene b p l h t) (scene c p l h t) (scene d q l h u) (turned_one b c p l h t is) (asked_one part c d p q l h t u awaits a)
+  -- as it is idle still when it has been asked
+  idle_still : (b c : ConnParts) → c ≡ (turn conf b).conn → IsIdle b → IsIdle c
+  idle_still b c is i = subst IsIdle (sym (is ∙ waits_stays conf b i.waits)) i
 
-  pub replied_goes : (w : Bool) (c d : ConnParts) (p : PassesParts D) (l h k t : Option (List ℕ)) → Replied conf w c d h k → Gone_on w (scene c p l h t) (scene d p l k t)
-  replied_goes w c d p l h k t r = record {
-    acts = r.acts;
-    did = [];
-    conn = r.conn;
-    given = r.none;
-    passes = refl;
-    fed = subst (Consumes l l) (sym r.unread) (Consumes-nil l);
-    wrote = r.wrote;
-    moments = tells_none t;
+  -- it was idle, and a read told the end or failed
+  read_end : (ended : Ended) (b c d : ConnParts) (p : PassesParts D) (l m h t : Option (List ℕ)) → Idle ≡ (turn conf b).next → c ≡ (turn conf b).conn → IsIdle b
+      → ClosesBy ended ends (turn conf b).conn → d ≡ conn_after_end c → Consumes l m [] → Talks conf seen shared ended (scene b p l h t) (scene d p m h t)
+  read_end ended b c d p l m h t tells is i closes end r = record {
+    talk = asks Idle ∷ [];
+    closing = ends;
+    unclosed = All-cons IsOpen (asks Idle) [] tt (All-nil IsOpen);
+    closes = closes;
+    goes = goes_then conf seen shared (asks Idle ∷ []) (ends ∷ []) (scene b p l h t) (scene c p l h t) (scene d p m h t)
+        (asks_one Idle b c p l h t tells is) (ends_one c d p l m h t (idle_still b c is i) end r);
   }
 
-  -- calls that read and write nothing, behind others
-  pub goes_quiet : (w : Bool) (a : Scene D) (c d : ConnParts) (p q : PassesParts D) (l h t u : Option (List ℕ)) → Gone_on w a (scene c p l h t)
-      → Quiet conf seen shared c d p q t u → Gone_on w a (scene d q l h u)
-  goes_quiet w a c d p q l h t u g k = record {
-    acts = g.acts ++ k.acts;
-    did = g.did ++ k.did;
-    conn = k.conn ∙ ap (conn_after_all conf k.acts) g.conn ∙ sym (after_append conf g.acts k.acts a.conn);
-    given = exchanges_append conf g.acts k.acts a.conn
-        ∙ ap (λ x. x ++ exchanges conf k.acts (conn_after_all conf g.acts a.conn)) g.given
-        ∙ ap (λ x. map exchange g.did ++ x) (ap (exchanges conf k.acts) (sym g.conn) ∙ k.given)
-        ∙ sym (map-append exchange g.did k.did);
-    passes = does_append conf seen shared g.did k.did a.passes p q g.passes k.passes;
-    fed = subst (Consumes a.left l) (sym (stream_append g.acts k.acts ∙ ap (λ (x : List ℕ). stream g.acts ++ x) k.unread ∙ append-nil (stream g.acts))) g.fed;
-    wrote = subst (Writes w a.held h)
-        (sym (sent_append conf g.acts k.acts a.conn
-        ∙ ap (λ (x : List ℕ). sent conf g.acts a.conn ++ x) (ap (sent conf k.acts) (sym g.conn) ∙ k.silent) ∙ append-nil (sent conf g.acts a.conn)))
-        g.wrote;
-    moments = subst (TellsMore a.told u) (sym (map-append (λ (x : Done). x.now) g.did k.did))
-        (tells_then a.told t u (map (λ (x : Done). x.now) g.did) (map (λ (x : Done). x.now) k.did) g.moments k.moments);
+  pub received : (turned : Turned) (b c d : ConnParts) (p : PassesParts D) (l m h t : Option (List ℕ)) → Idle ≡ (turn conf b).next → c ≡ (turn conf b).conn
+      → IsIdle b → Received turned c d l m → TurnsTo conf seen shared turned (scene b p l h t) (scene d p m h t)
+  received Goes_on b c d p l m h t tells is i r =
+      behind Idle (reads r.0) (scene b p l h t) (scene c p l h t) (scene d p m h t) tt tt (asks_one Idle b c p l h t tells is)
+      (reads_one c d p l m h t r.0 (idle_still b c is i) r.1 r.2)
+  received (Closes Peer) b c d p l m h t tells is i r = read_end Peer b c d p l m h t tells is i refl r.1 r.2
+  received (Closes (Closed cause)) b c d p l m h t tells is i r = absurd r.0
+  received (Closes Read) b c d p l m h t tells is i r = read_end Read b c d p l m h t tells is i refl r.1 r.2
+  received (Closes Write) b c d p l m h t tells is i r = absurd r.0
+  received (Closes NoMemory) b c d p l m h t tells is i r = absurd r.0
+
+  -- its own turn closed it
+  pub closed_by : (cause : CloseCause) (c d : ConnParts) (p : PassesParts D) (l h t : Option (List ℕ)) → next_closed cause ≡ (turn conf c).next → d ≡ (turn conf c).conn
+      → c.replies ≡ [] → Talks conf seen shared (Closed cause) (scene c p l h t) (scene d p l h t)
+  closed_by cause c d p l h t tells is none = record {
+    talk = [];
+    closing = asks (next_closed cause);
+    unclosed = All-nil IsOpen;
+    closes = (refl, none);
+    goes = asks_one (next_closed cause) c d p l h t tells is;
   }
+
+  does_one : (part : Part) (c d : ConnParts) (p q : PassesParts D) (t u : Option (List ℕ)) → awaited_part c ≡ Some part → (a : Asked conf seen shared part c d p q t u)
+      → Makes conf seen shared (does (record { part = part; now = a.now; answer = a.answer }) ∷ []) c d p q t u
+  does_one part c d p q t u awaits a = record { can = (awaits, tt); conn = a.conn; passes = (q, a.does, refl); moments = a.moment }
+
+  pub asked : (part : Part) (b c d : ConnParts) (p q : PassesParts D) (l h t u : Option (List ℕ)) → Ask part ≡ (turn conf b).next → c ≡ (turn conf b).conn
+      → awaited_part c ≡ Some part → Asked conf seen shared part c d p q t u → GoesOn conf seen shared (scene b p l h t) (scene d q l h u)
+  asked part b c d p q l h t u tells is awaits a =
+      behind (Ask part) (does (record { part = part; now = a.now; answer = a.answer })) (scene b p l h t) (scene c p l h t) (scene d q l h u) tt tt
+      (asks_one (Ask part) b c p l h t tells is)
+      (record { makes = does_one part c d p q t u awaits a; fed = Consumes-nil l; wrote = Appends-nil h })
+
+  pub replied_goes : (c d : ConnParts) (p : PassesParts D) (l h k t : Option (List ℕ)) → Replied conf c d h k
+      → GoesOn conf seen shared (scene c p l h t) (scene d p l k t)
+  replied_goes c d p l h k t r = record {
+    moves = map sends r.replies;
+    unclosed = sends_open r.replies;
+    goes = record {
+      makes = record {
+        can = r.can;
+        conn = r.conn;
+        passes = subst (λ (x : List Done). DoesAll conf seen shared x p p) (sym (sends_none r.replies)) refl;
+        moments = subst (TellsMore t t) (sym (ap moments_of (sends_none r.replies))) (tells_none t);
+      };
+      fed = subst (Consumes l l) (sym (sends_unread r.replies)) (Consumes-nil l);
+      wrote = r.wrote;
+    };
+  }
+
+  -- moves that read and write nothing, behind others
+  goes_quiet : (xs ys : List Move) (a : Scene D) (c d : ConnParts) (p q : PassesParts D) (l h t u : Option (List ℕ)) → Goes conf seen shared xs a (scene c p l h t)
+      → All IsQuiet ys → Makes conf seen shared ys c d p q t u → Goes conf seen shared (xs ++ ys) a (scene d q l h u)
+  goes_quiet xs ys a c d p q l h t u g quiet k = goes_then conf seen shared xs ys a (scene c p l h t) (scene d q l h u) g (record {
+    makes = k;
+    fed = subst (Consumes l l) (sym (quiet_does ys quiet).0) (Consumes-nil l);
+    wrote = subst (Appends h h) (sym (quiet_does ys quiet).1) (Appends-nil h);
+  })
 
   pub quiet_none : (c : ConnParts) (p : PassesParts D) (t : Option (List ℕ)) → Quiet conf seen shared c c p p t t
-  quiet_none c p t = record { acts = []; did = []; conn = refl; given = refl; passes = refl; unread = refl; silent = refl; moments = tells_none t }
+  quiet_none c p t = record { moves = []; quiet = All-nil IsQuiet; makes = makes_none conf seen shared c p t }
 
   pub quiet_then : (b c d : ConnParts) (o p q : PassesParts D) (s t u : Option (List ℕ)) → Quiet conf seen shared b c o p s t → Quiet conf seen shared c d p q t u
       → Quiet conf seen shared b d o q s u
   quiet_then b c d o p q s t u g k = record {
-    acts = g.acts ++ k.acts;
-    did = g.did ++ k.did;
-    conn = k.conn ∙ ap (conn_after_all conf k.acts) g.conn ∙ sym (after_append conf g.acts k.acts b);
-    given = exchanges_append conf g.acts k.acts b
-        ∙ ap (λ x. x ++ exchanges conf k.acts (conn_after_all conf g.acts b)) g.given
-        ∙ ap (λ x. map exchange g.did ++ x) (ap (exchanges conf k.acts) (sym g.conn) ∙ k.given)
-        ∙ sym (map-append exchange g.did k.did);
-    passes = does_append conf seen shared g.did k.did o p q g.passes k.passes;
-    unread = stream_append g.acts k.acts ∙ ap (λ (x : List ℕ). x ++ stream k.acts) g.unread ∙ k.unread;
-    silent = sent_append conf g.acts k.acts b ∙ ap (λ (x : List ℕ). x ++ sent conf k.acts (conn_after_all conf g.acts b)) g.silent
-        ∙ ap (sent conf k.acts) (sym g.conn) ∙ k.silent;
-    moments = subst (TellsMore s u) (sym (map-append (λ (x : Done). x.now) g.did k.did))
-        (tells_then s t u (map (λ (x : Done). x.now) g.did) (map (λ (x : Done). x.now) k.did) g.moments k.moments);
+    moves = g.moves ++ k.moves;
+    quiet = All-append IsQuiet g.moves k.moves g.quiet k.quiet;
+    makes = makes_then conf seen shared g.moves k.moves b c d o p q s t u g.makes k.makes;
   }
 
+  quiet_one : (m : Move) (c d : ConnParts) (p q : PassesParts D) (t u : Option (List ℕ)) → IsQuiet m → Makes conf seen shared (m ∷ []) c d p q t u
+      → Quiet conf seen shared c d p q t u
+  quiet_one m c d p q t u quiet k = record { moves = m ∷ []; quiet = All-cons IsQuiet m [] quiet (All-nil IsQuiet); makes = k }
+
   pub quiet_turned : (c d : ConnParts) (p : PassesParts D) (t : Option (List ℕ)) → d ≡ (turn conf c).conn → Quiet conf seen shared c d p p t t
-  quiet_turned c d p t is = record { acts = asks ∷ []; did = []; conn = is; given = refl; passes = refl; unread = refl; silent = refl; moments = tells_none t }
+  quiet_turned c d p t is =
+      quiet_one (asks (turn conf c).next) c d p p t t tt (record { can = (refl, tt); conn = is; passes = refl; moments = tells_none t })
 
   pub quiet_asked : (part : Part) (c d : ConnParts) (p q : PassesParts D) (t u : Option (List ℕ)) → awaited_part c ≡ Some part → Asked conf seen shared part c d p q t u
       → Quiet conf seen shared c d p q t u
-  quiet_asked part c d p q t u awaits a = record {
-    acts = gives a.answer ∷ [];
-    did = record { part = part; now = a.now; answer = a.answer } ∷ [];
-    conn = a.conn;
-    given = ap (λ o. exchange_of o a.answer ++ []) awaits;
-    passes = (q, a.does, refl);
-    unread = refl;
-    silent = refl;
-    moments = a.moment;
-  }
-
-  pub quiet_ended : (c d : ConnParts) (p : PassesParts D) (t : Option (List ℕ)) → d ≡ conn_after_end c → Quiet conf seen shared c d p p t t
-  quiet_ended c d p t is = record { acts = ends ∷ []; did = []; conn = is; given = refl; passes = refl; unread = refl; silent = refl; moments = tells_none t }
-
-  -- the call by which it closed
-  pub quiet_closed : (ended : Ended) (c d : ConnParts) (p : PassesParts D) (t : Option (List ℕ)) → ClosesBy conf ended c d
-      → Quiet conf seen shared c d p p t t
-  quiet_closed Peer c d p t k = quiet_ended c d p t k.1
-  quiet_closed (Closed cause) c d p t k = quiet_turned c d p t k.1
-  quiet_closed Read c d p t k = quiet_ended c d p t k.1
-  quiet_closed Write c d p t k = quiet_ended c d p t k
-  quiet_closed NoMemory c d p t k = absurd k
+  quiet_asked part c d p q t u awaits a =
+      quiet_one (does (record { part = part; now = a.now; answer = a.answer })) c d p q t u tt (does_one part c d p q t u awaits a)
 
   -- ---- where memory runs out
 
   pub breaks_here : (a : Scene D) → Breaks conf seen shared a a
-  breaks_here a = record { mid = a; goes = goes_none conf seen shared a; loses = ([], Consumes-nil a.left, refl, inl (refl, refl)) }
-
-  pub breaks_fed : (b c d : ConnParts) (p : PassesParts D) (l m h t : Option (List ℕ)) → c ≡ (turn conf b).conn → ((lost : List ℕ) × Consumes l m lost)
-      → Breaks conf seen shared (scene b p l h t) (scene d p m h t)
-  breaks_fed b c d p l m h t is lost = record {
-    mid = scene c p l h t;
-    goes = turned_one b c p l h t is;
-    loses = (lost.0, lost.1, refl, inl (refl, refl));
+  breaks_here a = record {
+    mid = a;
+    goes = goes_none conf seen shared a;
+    loses = record { lost = []; idle = inl refl; unfed = Consumes-nil a.left; held = refl; part = inl (refl, refl) };
   }
 
-  pub breaks_asked : (part : Part) (b c d : ConnParts) (p q : PassesParts D) (l h t u : Option (List ℕ)) → c ≡ (turn conf b).conn → awaited_part c ≡ Some part
-      → Stopped conf seen shared part c d p q t u → Breaks conf seen shared (scene b p l h t) (scene d q l h u)
-  breaks_asked part b c d p q l h t u is awaits s = record {
+  pub breaks_fed : (b c d : ConnParts) (p : PassesParts D) (l m h t : Option (List ℕ)) → Idle ≡ (turn conf b).next → c ≡ (turn conf b).conn → IsIdle b
+      → ((lost : List ℕ) × Consumes l m lost) → Breaks conf seen shared (scene b p l h t) (scene d p m h t)
+  breaks_fed b c d p l m h t tells is i lost = record {
     mid = scene c p l h t;
-    goes = turned_one b c p l h t is;
-    loses = ([], Consumes-nil l, refl, inr (part, awaits, s));
+    goes = turned Idle b c p l h t tt tells is;
+    loses = record { lost = lost.0; idle = inr (idle_still b c is i); unfed = lost.1; held = refl; part = inl (refl, refl) };
   }
 
-pub whole_of : (ended : Ended) → ended ≢ Write → is_whole ended ≡ true
-whole_of Peer ne = refl
-whole_of (Closed cause) ne = refl
-whole_of Read ne = refl
-whole_of Write ne = absurd (ne refl)
-whole_of NoMemory ne = refl
+  pub breaks_asked : (part : Part) (b c d : ConnParts) (p q : PassesParts D) (l h t u : Option (List ℕ)) → Ask part ≡ (turn conf b).next → c ≡ (turn conf b).conn
+      → awaited_part c ≡ Some part → Stopped conf seen shared part c d p q t u → Breaks conf seen shared (scene b p l h t) (scene d q l h u)
+  breaks_asked part b c d p q l h t u tells is awaits s = record {
+    mid = scene c p l h t;
+    goes = turned (Ask part) b c p l h t tt tells is;
+    loses = record { lost = []; idle = inl refl; unfed = Consumes-nil l; held = refl; part = inr (part, awaits, s) };
+  }
 
 -- ---- results
 
@@ -328,57 +366,59 @@ err_so (Err y) f p = f p
 
 module _ {D : Type 0} (conf : ConfigParts) (seen : D → DiskView) (shared : SharedParts D) where
   -- replies behind a run
-  pub then_replied : (w : Bool) (a : Scene D) (c d : ConnParts) (p : PassesParts D) (l m h k t : Option (List ℕ)) → Goes conf seen shared true a (scene c p l h t)
-      → Replied conf w c d h k → m ≡ l → Goes conf seen shared w a (scene d p m k t)
-  then_replied w a c d p l m h k t g r is = subst (λ (x : Option (List ℕ)). Goes conf seen shared w a (scene d p x k t)) (sym is)
-      (goes_then conf seen shared w a (scene c p l h t) (scene d p l k t) g (replied_goes conf seen shared w c d p l h k t r))
+  pub then_replied : (a : Scene D) (c d : ConnParts) (p : PassesParts D) (l m h k t : Option (List ℕ)) → GoesOn conf seen shared a (scene c p l h t)
+      → Replied conf c d h k → m ≡ l → GoesOn conf seen shared a (scene d p m k t)
+  then_replied a c d p l m h k t g r is = subst (λ (x : Option (List ℕ)). GoesOn conf seen shared a (scene d p x k t)) (sym is)
+      (goes_on conf seen shared a (scene c p l h t) (scene d p l k t) g (replied_goes conf seen shared c d p l h k t r))
 
   -- replies of which one wasn't written whole, and the end
-  pub talks_short : (a : Scene D) (c d e : ConnParts) (p : PassesParts D) (l m h k t : Option (List ℕ)) → Goes conf seen shared true a (scene c p l h t)
-      → Replied conf false c d h k → m ≡ l → e ≡ conn_after_end d → Talks conf seen shared Write a (scene e p m k t)
-  talks_short a c d e p l m h k t g r is end = (d, then_replied false a c d p l m h k t g r is, tt, end)
-
-  as_whole : (ended : Ended) (a b : Scene D) → ended ≢ Write → Goes conf seen shared true a b → Goes conf seen shared (is_whole ended) a b
-  as_whole ended a b ne g = subst (λ (w : Bool). Goes conf seen shared w a b) (sym (whole_of ended ne)) g
-
-  none_left : (ended : Ended) (replies : List (List ℕ)) → ended ≢ NoMemory → replies ≡ [] → NoneLeft ended replies
-  none_left Peer replies ne is = is
-  none_left (Closed cause) replies ne is = is
-  none_left Read replies ne is = is
-  none_left Write replies ne is = tt
-  none_left NoMemory replies ne is = absurd (ne refl)
-
-  -- a turn that closes, behind a run of which no reply is left
-  pub talks_to : (ended : Ended) (a : Scene D) (b c : Scene D) → ended ≢ Write → ended ≢ NoMemory → Goes conf seen shared true a b → b.conn.replies ≡ []
-      → TurnsTo conf seen shared (Closes ended) b c → Talks conf seen shared ended a c
-  talks_to ended a b c no_write no_want g none q = (
-    q.0,
-    as_whole ended a (scene q.0 c.passes c.left c.held c.told) no_write
-        (goes_then conf seen shared true a b (scene q.0 c.passes c.left c.held c.told) g q.1),
-    none_left ended q.0.replies no_want (q.2 ∙ none),
-    q.3,
-  )
+  pub talks_short : (a : Scene D) (c d e : ConnParts) (p : PassesParts D) (l m h k t : Option (List ℕ)) → GoesOn conf seen shared a (scene c p l h t)
+      → Fails conf c d h k → m ≡ l → e ≡ conn_after_end d → Talks conf seen shared Write a (scene e p m k t)
+  talks_short a c d e p l m h k t g f is end = subst (λ (x : Option (List ℕ)). Talks conf seen shared Write a (scene e p x k t)) (sym is)
+      (talks_then conf seen shared Write a (scene f.mid p l f.until t) (scene e p l k t)
+      (then_replied a c f.mid p l l h f.until t g f.replied refl)
+      (record {
+        talk = [];
+        closing = breaks f.front;
+        unclosed = All-nil IsOpen;
+        closes = (f.front, refl);
+        goes = record {
+          makes = record { can = (f.can, tt); conn = end ∙ ap conn_after_end f.conn; passes = refl; moments = tells_none t };
+          fed = Consumes-nil l;
+          wrote = subst (Appends f.until k) (sym (append-nil f.front)) f.wrote;
+        };
+      }))
 
 -- ---- the whole
 
 module _ {D : Type 0} (conf : ConfigParts) (seen : D → DiskView) (shared : SharedParts D) (first : ConnParts) (is_first : first ≡ new_conn) where
-  as_first : (w : Bool) (old : PassesParts D) (left held told : Option (List ℕ)) (b : Scene D)
-      → Goes conf seen shared w (scene first old left held told) b → Goes conf seen shared w (scene new_conn old left held told) b
-  as_first w old left held told b g = subst (λ (c : ConnParts). Goes conf seen shared w (scene c old left held told) b) is_first g
+  as_first : (moves : List Move) (old : PassesParts D) (left held told : Option (List ℕ)) (b : Scene D)
+      → Goes conf seen shared moves (scene first old left held told) b → Goes conf seen shared moves (scene new_conn old left held told) b
+  as_first moves old left held told b g = subst (λ (c : ConnParts). Goes conf seen shared moves (scene c old left held told) b) is_first g
+
+  -- the moves up to where it closed, and releases behind them
+  released : (ended : Ended) (old p q : PassesParts D) (left l held h told t u : Option (List ℕ)) (c d : ConnParts)
+      → (g : Talks conf seen shared ended (scene first old left held told) (scene c p l h t)) → (r : Quiet conf seen shared c d p q t u)
+      → Goes conf seen shared (g.talk ++ g.closing ∷ r.moves) (scene new_conn old left held told) (scene d q l h u)
+  released ended old p q left l held h told t u c d g r =
+      subst (λ (ms : List Move). Goes conf seen shared ms (scene new_conn old left held told) (scene d q l h u)) (append_assoc g.talk (g.closing ∷ []) r.moves)
+      (goes_quiet conf seen shared (g.talk ++ g.closing ∷ []) r.moves (scene new_conn old left held told) c d p q l h t u
+      (as_first (g.talk ++ g.closing ∷ []) old left held told (scene c p l h t) g.goes) r.quiet r.makes)
 
   serves : (ended : Ended) (old p q : PassesParts D) (left l held h told t u : Option (List ℕ)) (c d : ConnParts)
       → Talks conf seen shared ended (scene first old left held told) (scene c p l h t) → Releases conf seen shared true c d p q t u
       → Serves conf seen shared ended old q left l held h told u
   serves ended old p q left l held h told t u c d g r = record {
-    at = g.0;
-    mid = p;
-    until = t;
-    goes = as_first (is_whole ended) old left held told (scene g.0 p l h t) g.1;
-    none_left = g.2;
-    closed = c;
-    cause = g.3;
+    talk = g.talk;
+    closing = g.closing;
+    releases = r.quiet.moves;
     last = r.at;
-    releases = subst (λ (x : PassesParts D × Option (List ℕ)). Quiet conf seen shared c r.at p x.0 t x.1) (λ i. (sym r.last.2 i, sym r.last.3 i)) r.quiet;
+    goes = subst (λ (x : PassesParts D × Option (List ℕ)).
+        Goes conf seen shared (g.talk ++ g.closing ∷ r.quiet.moves) (scene new_conn old left held told) (scene r.at x.0 l h x.1))
+        (λ i. (sym r.last.2 i, sym r.last.3 i)) (released ended old p r.mid left l held h told t r.until c r.at g r.quiet);
+    unclosed = g.unclosed;
+    closes = subst (λ (x : ConnParts). ClosesBy ended g.closing (conn_after_moves conf g.talk x)) is_first g.closes;
+    quiet = r.quiet.quiet;
     gone = r.last.0;
   }
 
@@ -395,21 +435,26 @@ module _ {D : Type 0} (conf : ConfigParts) (seen : D → DiskView) (shared : Sha
       → Talks conf seen shared ended (scene first old left held told) (scene c p l h t) → Releases conf seen shared false c d p q t u
       → IsCut conf seen shared old q left l held h told u
   cut_after ended old p q left l held h told t u c d g r = record {
+    talk = g.talk;
+    rest = g.closing ∷ r.quiet.moves;
     mid = scene r.at r.mid l h r.until;
     last = d;
-    whole = is_whole ended;
-    goes = goes_quiet conf seen shared (is_whole ended) (scene new_conn old left held told) c r.at p r.mid l h t r.until
-        (goes_quiet conf seen shared (is_whole ended) (scene new_conn old left held told) g.0 c p p l h t t
-        (as_first (is_whole ended) old left held told (scene g.0 p l h t) g.1) (quiet_closed conf seen shared ended g.0 c p t g.3)) r.quiet;
-    loses = ([], Consumes-nil l, refl, r.last);
+    goes = released ended old p r.mid left l held h told t r.until c r.at g r.quiet;
+    unclosed = g.unclosed;
+    closed = ((ended, subst (λ (x : ConnParts). ClosesBy ended g.closing (conn_after_moves conf g.talk x)) is_first g.closes), r.quiet.quiet);
+    loses = record { lost = []; idle = inl refl; unfed = Consumes-nil l; held = refl; part = r.last };
   }
 
   pub cut_here : (old q : PassesParts D) (left m held k told u : Option (List ℕ)) (d : ConnParts)
       → Breaks conf seen shared (scene first old left held told) (scene d q m k u) → IsCut conf seen shared old q left m held k told u
   cut_here old q left m held k told u d b = record {
+    talk = b.goes.moves;
+    rest = [];
     mid = b.mid;
     last = d;
-    whole = true;
-    goes = as_first true old left held told b.mid b.goes;
+    goes = subst (λ (ms : List Move). Goes conf seen shared ms (scene new_conn old left held told) b.mid) (sym (append-nil b.goes.moves))
+        (as_first b.goes.moves old left held told b.mid b.goes.goes);
+    unclosed = b.goes.unclosed;
+    closed = tt;
     loses = b.loses;
   }

@@ -4,7 +4,7 @@ pub mod Opening
 pub mod Histories
 pub mod Closing
 pub mod Acting
-pub mod Telling
+pub mod Moving
 pub mod Serving
 pub mod Expiring
 pub mod Working

@@ -1,36 +1,27 @@
 -- What serving a connection does: to the connection, to the passes through which it acts, to its link and to the clock. This project's own.
 -- For example a link that gives one Read of foreign state and ends has one part, done by one entry of the thread's pass of foreign state at the
 -- first moment of the clock; the bytes of its one reply were written, and the connection is gone.
-use Rattle.std.specs.Prelude.{◌≡◌, ◌⊎◌, ◌∷◌, [], ℕ, List, Option, Bool, true, false, map}
+use Rattle.std.specs.Prelude.{◌≡◌, ◌⊎◌, ◌∷◌, ◌++◌, [], ℕ, List, Option, Bool, true, false, map, ⊤}
+use Rattle.std.specs.List.{All}
 use Rattle.std.specs.Io.KnownBytes.{Appends, Consumes, IsAtEnd}
 use Rattle.edge_io.specs.Causes.{Rose}
-use Rattle.edge_io.specs.Streams.{AppendsFront}
 use Rattle.edge_io.specs.Views.{DiskView}
 use Rattle.edge_io.specs.Serving.{TellsMore}
 use Rattle.topic_conf.specs.Configs.{ConfigParts}
 use Rattle.call_fold.specs.declared.part.Part.{Part}
 use Rattle.call_fold.specs.declared.part.PartAnswer.{PartAnswer}
 use Rattle.conn_core.specs.declared.next.Next.TheVariants.{Ask, Gone, Closed as next_closed}
-use Rattle.conn_core.specs.Conns.{ConnParts, new_conn, conn_after_bytes, conn_after_end}
-use Rattle.conn_core.specs.Streams.{Act, conn_after_all, stream}
+use Rattle.conn_core.specs.Conns.{ConnParts, new_conn, conn_after_bytes, conn_after_end, conn_after_reply}
 use Rattle.conn_core.specs.HostedShards.{AreHostedIn}
-use Rattle.conn_core.specs.Turning.{Awaits, Waits, turn, conn_after_answer}
+use Rattle.conn_core.specs.Turning.{Awaits, turn, conn_after_answer}
 use Rattle.broker_run.specs.declared.connection.Ended.{Ended}
 use Rattle.broker_run.specs.declared.connection.Ended.TheVariants.{Peer, Closed, Read, Write, NoMemory}
 use Rattle.broker_run.specs.declared.connection.Turned.{Turned}
 use Rattle.broker_run.specs.declared.connection.Turned.TheVariants.{Goes as Goes_on, Closes}
 use Rattle.broker_run.specs.Shared.{SharedParts, PassesParts}
 use Rattle.broker_run.specs.Acting.{AreOf, DoesPart, FailsPart, HostsAll}
-use Rattle.broker_run.specs.Telling.{Exchange, exchanges, sent}
-
--- a part that was done, when, and its answer
-pub record Done : Type 0 where
-  pub part : Part
-  pub now : ℕ
-  pub answer : PartAnswer
-
-abbrev pub exchange : Done → Exchange
-exchange d = record { part = d.part; answer = d.answer }
+use Rattle.broker_run.specs.Moving.{Can, CanAll, Done, IsIdle, IsOpen, IsQuiet, Move, conn_after_moves, done_by, moments_of, read_by, written_by}
+use Rattle.broker_run.specs.Moving.Move.{asks, breaks, ends, sends}
 
 -- a connection, its passes, the bytes that its link has left and holds, and the answers that its clock gave
 pub record Scene (D : Type 0) : Type 0 where
@@ -53,28 +44,30 @@ pub record CanServe {D : Type 0} (conf : ConfigParts) (shared : SharedParts D) (
   pub hosts : HostsAll conf shared
   pub hosted : AreHostedIn conf conn
 
--- all of these bytes were written, or a front of them
-abbrev pub Writes : Bool → (old new : Option (List ℕ)) → List ℕ → Type 0
-Writes true old new bytes = Appends old new bytes
-Writes false old new bytes = (rest : List ℕ) × AppendsFront old new bytes rest
-
 module _ {D : Type 0} (conf : ConfigParts) (seen : D → DiskView) (shared : SharedParts D) where
   -- the parts were done one after the other
   abbrev pub DoesAll : List Done → PassesParts D → PassesParts D → Type 0
   DoesAll [] old new = new ≡ old
   DoesAll (d ∷ ds) old new = (mid : PassesParts D) × DoesPart seen shared d.part d.now d.answer old mid × DoesAll ds mid new
 
-  -- These calls of the connection were made, and these parts done. The parts that the connection asked are those that were done, with their
-  -- answers; the bytes that came are those that the link gave; what was taken was written; each part had a moment of its own.
-  pub record Goes (whole : Bool) (old new : Scene D) : Type 0 where
-    pub acts : List Act
-    pub did : List Done
-    pub conn : new.conn ≡ conn_after_all conf acts old.conn
-    pub given : exchanges conf acts old.conn ≡ map exchange did
-    pub passes : DoesAll did old.passes new.passes
-    pub fed : Consumes old.left new.left (stream acts)
-    pub wrote : Writes whole old.held new.held (sent conf acts old.conn)
-    pub moments : TellsMore old.told new.told (map (λ d. d.now) did)
+  -- These moves lead a connection and its passes so far: it can make each where it comes, their parts were done, and each part had a moment of its own.
+  pub record Makes (moves : List Move) (old new : ConnParts) (old_passes new_passes : PassesParts D) (told later : Option (List ℕ)) : Type 0 where
+    pub can : CanAll conf moves old
+    pub conn : new ≡ conn_after_moves conf moves old
+    pub passes : DoesAll (done_by moves) old_passes new_passes
+    pub moments : TellsMore told later (moments_of (done_by moves))
+
+  -- The same with its link: the bytes that it was fed are those that the link gave, and those of its replies were written.
+  pub record Goes (moves : List Move) (old new : Scene D) : Type 0 where
+    pub makes : Makes moves old.conn new.conn old.passes new.passes old.told new.told
+    pub fed : Consumes old.left new.left (read_by moves)
+    pub wrote : Appends old.held new.held (written_by moves)
+
+  -- some moves were made, of which none closed it
+  pub record GoesOn (old new : Scene D) : Type 0 where
+    pub moves : List Move
+    pub unclosed : All IsOpen moves
+    pub goes : Goes moves old new
 
   -- the part that the connection awaits was done and its answer given, at a moment of its own
   pub record Asked (part : Part) (old new : ConnParts) (old_passes new_passes : PassesParts D) (told later : Option (List ℕ)) : Type 0 where
@@ -91,34 +84,35 @@ module _ {D : Type 0} (conf : ConfigParts) (seen : D → DiskView) (shared : Sha
         ⊎ ((answer : PartAnswer) × DoesPart seen shared part now answer old_passes new_passes × (new ≡ conn_after_end old))
     pub moment : TellsMore told later (now ∷ [])
 
-  -- what an act that found no memory leaves behind: bytes that came and weren't fed, or a part that was asked and not answered
-  abbrev pub Loses : (mid new : Scene D) → Type 0
-  Loses mid new = (lost : List ℕ) × Consumes mid.left new.left lost × (new.held ≡ mid.held) ×
-      (((new.passes ≡ mid.passes) × (new.told ≡ mid.told))
-      ⊎ ((part : Part) × Awaits (Ask part) mid.conn × Stopped part mid.conn new.conn mid.passes new.passes mid.told new.told))
+  -- nothing was done, or a part that was asked wasn't answered
+  abbrev pub LosesPart : ConnParts → ConnParts → PassesParts D → PassesParts D → (told later : Option (List ℕ)) → Type 0
+  LosesPart at new mid passes told later =
+      ((passes ≡ mid) × (later ≡ told)) ⊎ ((part : Part) × Awaits (Ask part) at × Stopped part at new mid passes told later)
+
+  -- What an act that found no memory leaves behind: bytes that came and weren't fed, which were read where it was idle, or a part.
+  pub record Loses (mid new : Scene D) : Type 0 where
+    pub lost : List ℕ
+    pub idle : (lost ≡ []) ⊎ IsIdle mid.conn
+    pub unfed : Consumes mid.left new.left lost
+    pub held : new.held ≡ mid.held
+    pub part : LosesPart mid.conn new.conn mid.passes new.passes mid.told new.told
 
   -- what went before, and where memory ran out
   pub record Breaks (old new : Scene D) : Type 0 where
     pub mid : Scene D
-    pub goes : Goes true old mid
+    pub goes : GoesOn old mid
     pub loses : Loses mid new
 
   -- the connection is gone, or memory ran out
   abbrev pub AtEnd : Bool → ConnParts → ConnParts → PassesParts D → PassesParts D → (told later : Option (List ℕ)) → Type 0
   AtEnd true at new mid passes told later = ((turn conf at).next ≡ Gone) × (new ≡ (turn conf at).conn) × (passes ≡ mid) × (later ≡ told)
-  AtEnd false at new mid passes told later =
-      ((passes ≡ mid) × (later ≡ told)) ⊎ ((part : Part) × Awaits (Ask part) at × Stopped part at new mid passes told later)
+  AtEnd false at new mid passes told later = LosesPart at new mid passes told later
 
-  -- calls of the connection were made and parts done, with nothing read and nothing written
+  -- parts were done, with nothing read and nothing written
   pub record Quiet (old new : ConnParts) (old_passes new_passes : PassesParts D) (told later : Option (List ℕ)) : Type 0 where
-    pub acts : List Act
-    pub did : List Done
-    pub conn : new ≡ conn_after_all conf acts old
-    pub given : exchanges conf acts old ≡ map exchange did
-    pub passes : DoesAll did old_passes new_passes
-    pub unread : stream acts ≡ []
-    pub silent : sent conf acts old ≡ []
-    pub moments : TellsMore told later (map (λ d. d.now) did)
+    pub moves : List Move
+    pub quiet : All IsQuiet moves
+    pub makes : Makes moves old new old_passes new_passes told later
 
   -- What is left of a connection that closes was done, up to its end or to where memory ran out.
   pub record Releases (gone : Bool) (old new : ConnParts) (old_passes new_passes : PassesParts D) (told later : Option (List ℕ)) : Type 0 where
@@ -159,73 +153,76 @@ abbrev pub Received : Turned → ConnParts → ConnParts → (left later : Optio
 Received Goes_on old new left later = (piece : List ℕ) × (new ≡ conn_after_bytes piece old) × Consumes left later piece
 Received (Closes ended) old new left later = EndsByRead ended × (new ≡ conn_after_end old) × Consumes left later []
 
--- no finished reply was left to be written, unless a write failed
-abbrev pub NoneLeft : Ended → List (List ℕ) → Type 0
-NoneLeft Peer replies = replies ≡ []
-NoneLeft (Closed cause) replies = replies ≡ []
-NoneLeft Read replies = replies ≡ []
-NoneLeft Write replies = Unit {0}
-NoneLeft NoMemory replies = ⊥
-
 module _ (conf : ConfigParts) where
-  -- finished replies were taken, and written: all of their bytes, or a front of them
-  pub record Replied (whole : Bool) (old new : ConnParts) (held later : Option (List ℕ)) : Type 0 where
-    pub acts : List Act
-    pub conn : new ≡ conn_after_all conf acts old
-    pub none : exchanges conf acts old ≡ []
-    pub unread : stream acts ≡ []
-    pub wrote : Writes whole held later (sent conf acts old)
+  -- finished replies were written, one after the other
+  pub record Replied (old new : ConnParts) (held later : Option (List ℕ)) : Type 0 where
+    pub replies : List (List ℕ)
+    pub can : CanAll conf (map sends replies) old
+    pub conn : new ≡ conn_after_moves conf (map sends replies) old
+    pub wrote : Appends held later (written_by (map sends replies))
 
-abbrev pub is_whole : Ended → Bool
-is_whole Peer = true
-is_whole (Closed cause) = true
-is_whole Read = true
-is_whole Write = false
-is_whole NoMemory = true
+  -- and behind them the write of one failed
+  pub record Fails (old new : ConnParts) (held later : Option (List ℕ)) : Type 0 where
+    pub mid : ConnParts
+    pub until : Option (List ℕ)
+    pub replied : Replied old mid held until
+    pub front : List ℕ
+    pub can : Can conf (breaks front) mid
+    pub conn : new ≡ conn_after_reply mid
+    pub wrote : Appends until later front
 
--- The call by which the connection closed. The peer closes, and a read fails, only where it waited: no request was in hand, and no whole frame
--- was left. It closes for a cause where its own turn says so.
-abbrev pub ClosesBy : ConfigParts → Ended → ConnParts → ConnParts → Type 0
-ClosesBy conf Peer at closed = Waits at × (closed ≡ conn_after_end at)
-ClosesBy conf (Closed cause) at closed = ((turn conf at).next ≡ next_closed cause) × (closed ≡ (turn conf at).conn)
-ClosesBy conf Read at closed = Waits at × (closed ≡ conn_after_end at)
-ClosesBy conf Write at closed = closed ≡ conn_after_end at
-ClosesBy conf NoMemory at closed = ⊥
+-- The move by which it closed, and where. The peer closes, and a read fails, only where it was idle. It closes for a cause where its own turn says
+-- so, with no finished reply left to be written.
+abbrev pub ClosesBy : Ended → Move → ConnParts → Type 0
+ClosesBy Peer move at = move ≡ ends
+ClosesBy (Closed cause) move at = (move ≡ asks (next_closed cause)) × (at.replies ≡ [])
+ClosesBy Read move at = move ≡ ends
+ClosesBy Write move at = (front : List ℕ) × (move ≡ breaks front)
+ClosesBy NoMemory move at = ⊥
+
+-- the move that closed it, if one did, and the releases behind it
+abbrev pub IsRest : List Move → ConnParts → Type 0
+IsRest [] at = ⊤
+IsRest (move ∷ releases) at = ((ended : Ended) × ClosesBy ended move at) × All IsQuiet releases
 
 module _ {D : Type 0} (conf : ConfigParts) (seen : D → DiskView) (shared : SharedParts D) where
-  -- what a turn came to: it goes on; or it went on to where it closed, and no reply was finished or taken in that turn
+  -- a connection up to where it closed, by the last move
+  pub record Talks (ended : Ended) (old new : Scene D) : Type 0 where
+    pub talk : List Move
+    pub closing : Move
+    pub unclosed : All IsOpen talk
+    pub closes : ClosesBy ended closing (conn_after_moves conf talk old.conn)
+    pub goes : Goes conf seen shared (talk ++ closing ∷ []) old new
+
+  -- what a turn came to
   abbrev pub TurnsTo : Turned → Scene D → Scene D → Type 0
-  TurnsTo Goes_on old new = Goes conf seen shared true old new
-  TurnsTo (Closes ended) old new = (at : ConnParts) × Goes conf seen shared true old (scene at new.passes new.left new.held new.told)
-      × (at.replies ≡ old.conn.replies) × ClosesBy conf ended at new.conn
+  TurnsTo Goes_on old new = GoesOn conf seen shared old new
+  TurnsTo (Closes ended) old new = Talks ended old new
 
-  -- a connection up to where it closed
-  abbrev pub Talks : Ended → Scene D → Scene D → Type 0
-  Talks ended old new = (at : ConnParts) × Goes conf seen shared (is_whole ended) old (scene at new.passes new.left new.held new.told)
-      × NoneLeft ended at.replies × ClosesBy conf ended at new.conn
-
-  -- The whole life of a connection. All that the link gave was fed to it until it closed, and all its finished replies were written, or a front of
-  -- them where a write failed. Then what its members held was released, up to its end.
+  -- The whole life of a connection: its moves up to where it closed, the one by which it closed, and behind it the releases of what its members held,
+  -- up to its end.
   pub record Serves (ended : Ended) (old new : PassesParts D) (left later : Option (List ℕ)) (held grown : Option (List ℕ))
       (told last_told : Option (List ℕ)) : Type 0 where
-    pub at : ConnParts
-    pub mid : PassesParts D
-    pub until : Option (List ℕ)
-    pub goes : Goes conf seen shared (is_whole ended) (scene new_conn old left held told) (scene at mid later grown until)
-    pub none_left : NoneLeft ended at.replies
-    pub closed : ConnParts
-    pub cause : ClosesBy conf ended at closed
+    pub talk : List Move
+    pub closing : Move
+    pub releases : List Move
     pub last : ConnParts
-    pub releases : Quiet conf seen shared closed last mid new until last_told
+    pub goes : Goes conf seen shared (talk ++ closing ∷ releases) (scene new_conn old left held told) (scene last new later grown last_told)
+    pub unclosed : All IsOpen talk
+    pub closes : ClosesBy ended closing (conn_after_moves conf talk new_conn)
+    pub quiet : All IsQuiet releases
     pub gone : (turn conf last).next ≡ Gone
 
-  -- memory ran out somewhere: what was done before it, and what was lost
+  -- Memory ran out somewhere, before it closed or among its releases: what was done before it, and what was lost.
   pub record IsCut (old new : PassesParts D) (left later : Option (List ℕ)) (held grown : Option (List ℕ))
       (told last_told : Option (List ℕ)) : Type 0 where
+    pub talk : List Move
+    pub rest : List Move
     pub mid : Scene D
     pub last : ConnParts
-    pub whole : Bool
-    pub goes : Goes conf seen shared whole (scene new_conn old left held told) mid
+    pub goes : Goes conf seen shared (talk ++ rest) (scene new_conn old left held told) mid
+    pub unclosed : All IsOpen talk
+    pub closed : IsRest rest (conn_after_moves conf talk new_conn)
     pub loses : Loses conf seen shared mid (scene last new later grown last_told)
 
   abbrev pub IsServed : (old new : PassesParts D) → (left later held grown told last_told : Option (List ℕ)) → Ended → Type 0

@@ -8,7 +8,7 @@ ghost use Rattle.conn_core.specs.Conns.{new_conn};
 ghost use Rattle.conn_core.specs.Turning.{Awaits};
 ghost use Rattle.broker_run.specs.Acting.{AreOf, HostsAll, StayOf};
 ghost use Rattle.broker_run.specs.Serving.{Asked, Breaks, CanServe, HasEndCause, HasTurnCause, IsServed};
-ghost use Rattle.broker_run.specs.Serving.{Received, Releases, Replied, Stopped, Talks, TurnsTo, scene_of};
+ghost use Rattle.broker_run.specs.Serving.{Fails, Received, Releases, Replied, Stopped, Talks, TurnsTo, scene_of};
 
 use crate::parts::do_part;
 use crate::shared::{Passes, Shared};
@@ -76,10 +76,10 @@ fn reply<K: Link, G: Gate>(
     gate: &G,
 ) -> Result<(), Failed>
     ensures ok { OnOk result (
-        ((conf : ConfigParts) → Replied conf true conn.old conn.new (K.held link.old) (K.held link.new))
+        ((conf : ConfigParts) → Replied conf conn.old conn.new (K.held link.old) (K.held link.new))
         × (conn.new.replies ≡ [])) }
     ensures err { OnErr result (
-        (conf : ConfigParts) → Replied conf false conn.old conn.new (K.held link.old) (K.held link.new)) }
+        (conf : ConfigParts) → Fails conf conn.old conn.new (K.held link.old) (K.held link.new)) }
     ensures same { (K.left link.new ≡ K.left link.old) × (K.ended link.new ≡ K.ended link.old) }
     ensures cause { HasCause (K.faults link.old) (K.faults link.new) result }
 {
@@ -121,7 +121,7 @@ fn receive<K: Link>(conn: &mut Conn, link: &mut K) -> Result<Turned, NoMemory>
     }
 }
 
-// One turn of the connection.
+// One turn of the connection, whose finished replies were written.
 fn turn<R: Wait, K: Link, C: Clock, G: Gate, D: Disk>(
     rt: &R,
     conf: &Config,
@@ -134,6 +134,7 @@ fn turn<R: Wait, K: Link, C: Clock, G: Gate, D: Disk>(
     gate: &G,
 ) -> Result<Turned, NoMemory>
     requires ready { CanServe conf.now shared.now passes.old conn.old }
+    requires answered { conn.old.replies ≡ [] }
     ensures stay { StayOf shared.now passes.old passes.new }
     ensures ok { IfOk result (λ turned. TurnsTo conf.now D.seen shared.now turned
         (scene_of K.left K.held C.told conn.old passes.old link.old clock.old)
@@ -295,8 +296,9 @@ fn serve<R: Wait, D: Disk, K: Link, C: Clock, G: Gate>(
 ///
 /// The bytes that the link gives are fed to a connection that has just come. Each part that it asks is done by one
 /// act of the pass of its shard, at a moment of its own, and its answer is given. A finished reply is written at
-/// once. The link is read only where the connection waits. Where the peer ends or a call of the link fails, the
-/// releases are done all the same; where no memory is found, the call ends there.
+/// once. The link is read only where the connection is idle: no request is in hand, none can be taken up, and no
+/// reply is left to be written. Where the peer ends or a call of the link fails, the releases are done all the same;
+/// where no memory is found, the call ends there.
 pub fn serve_connection<R: Wait, D: Disk, K: Link, C: Clock, G: Gate>(
     rt: &R,
     alloc: Global,
