@@ -18,15 +18,15 @@ module _ {B D : Type 0} (bay_seen : B → BayView D) (seen : D → DiskView) (Wo
     (old opened new : B) (shared : SharedParts D) (configured : shared.conf ≡ conf)
     (opens : IsOpening bay_seen seen conf old opened (first_shards shared)) (told : TellsStill bay_seen old opened) (rows : List (PassesParts D))
     (worked : AllByRecursion (Worked shared) rows) (closes : Closes bay_seen seen shared rows opened new) where
-    pub serves : Serves bay_seen seen Worked conf old new
-    serves = record {
-      shared = shared;
-      configured = configured;
-      opened = opened;
-      opens = opens;
-      rows = rows;
-      worked = worked;
-      closes = closes;
-      told = told_on bay_seen old opened new told closes.put.told;
-      back = closes.put.none_out (subst (λ (l : List Hosted). AreOut bay_seen (all_names l) opened) (sym closes.hosts) opens.taken);
-    }
+  pub serves : Serves bay_seen seen Worked conf old new
+  serves = record {
+    shared = shared;
+    configured = configured;
+    opened = opened;
+    opens = opens;
+    rows = rows;
+    worked = worked;
+    closes = closes;
+    told = told_on bay_seen old opened new told closes.put.told;
+    back = closes.put.none_out (subst (λ (l : List Hosted). AreOut bay_seen (all_names l) opened) (sym closes.hosts) opens.taken);
+  }

@@ -101,12 +101,7 @@ fn start_job<
     J: FnOnce() + Send + 'static,
     D: Disk,
     B: Naming<D>,
->(
-    rt: &R,
-    job: J,
-    desk: &Desk<K, C, D, B>,
-    spawner: &mut P,
-) -> bool
+>(rt: &R, job: J, desk: &Desk<K, C, D, B>, spawner: &mut P) -> bool
     requires { J.pre job }
     ensures cause { result ≡ false → Rose (P.faults spawner.old) (P.faults spawner.new) }
     ensures later { P.faults spawner.old ≤ P.faults spawner.new }

@@ -17,7 +17,7 @@ returns-in-Ok-Idle-clause-ok g c =
     let w : Waits c.args.conn.now = search rules in
     let e = c.receive.ensures in
     rw e.same (if_ok_so _ _ c.receive.result (λ turned r. received c.args.conf.now g.D.Disk.seen c.args.shared.now turned _ _ _ c.args.passes.now _ _ _ _ tells is
-        (record { waits = w; answered = c.requires.answered }) r) e.ok)
+    (record { waits = w; answered = c.requires.answered }) r) e.ok)
 
 pub returns-in-Ok-Idle-clause-err : goal.returns-in-Ok-Idle-clause-err
 returns-in-Ok-Idle-clause-err g c =
@@ -26,7 +26,7 @@ returns-in-Ok-Idle-clause-err g c =
     let w : Waits c.args.conn.now = search rules in
     let e = c.receive.ensures in
     rw e.same (err_so c.receive.result (λ r. breaks_fed c.args.conf.now g.D.Disk.seen c.args.shared.now _ _ _ c.args.passes.now _ _ _ _ tells is
-        (record { waits = w; answered = c.requires.answered }) r.1) e.err)
+    (record { waits = w; answered = c.requires.answered }) r.1) e.err)
 
 pub ask-requires : goal.ask-requires
 ask-requires g c =

@@ -116,9 +116,9 @@ returns-in-Ok-clause-open g c = (
 
 pub returns-in-Ok-clause-fresh : goal.returns-in-Ok-clause-fresh
 returns-in-Ok-clause-fresh g c = let t = c.in-Ok.ensures.ok in (
-      takes_fresh g.B.Bay.seen g.D.Disk.seen (hosted_of c.args.conf) c.args.bay.now (parts_of c.in-Ok.hosts).parts t.mid t.parts,
-      subst (λ (s : ForeignSlot g.row.D.Denot). IsFreshForeign g.D.Disk.seen s) (sym t.foreign.is_open) t.foreign.fresh,
-    )
+  takes_fresh g.B.Bay.seen g.D.Disk.seen (hosted_of c.args.conf) c.args.bay.now (parts_of c.in-Ok.hosts).parts t.mid t.parts,
+  subst (λ (s : ForeignSlot g.row.D.Denot). IsFreshForeign g.D.Disk.seen s) (sym t.foreign.is_open) t.foreign.fresh,
+)
 
 pub returns-in-Ok-clause-taken : goal.returns-in-Ok-clause-taken
 returns-in-Ok-clause-taken g c = all_out g.B.Bay.seen g.D.Disk.seen
