@@ -10,9 +10,10 @@
 //
 // A text is the value, and `written HEX` behind it where the value is written as other bytes; or a fault and its
 // place. Each proper front of bytes that are read has to be refused. In values `null` is Kafka's null. The kinds are
-// in `kinds.rt`, `messages.rt`, `batches.rt`, `records.rt`, `acks.rt`, `values.rt` and `sessions.rt`.
+// in `kinds.rt`, `messages.rt`, `batches.rt`, `heard.rt`, `records.rt`, `acks.rt`, `values.rt` and `sessions.rt`.
 use crate::acks::ack_told;
 use crate::batches::{batch_told, made_told, placed_told, record_of, unchecked_told};
+use crate::heard::heard_told;
 use crate::kinds::wire_told;
 use crate::plain::is_text;
 use crate::records::{record_told, update_told};
@@ -121,6 +122,8 @@ impl Formats {
             "batch" | "batch-read" => made_told(alloc, kind, &self.records),
             "placed-at-72623859790382856" => placed_told(alloc, bytes, 72623859790382856),
             "unchecked-places" => unchecked_told(alloc, bytes),
+            "hears-2" => heard_told(alloc, bytes, 2),
+            "hears-500" => heard_told(alloc, bytes, 500),
             "state-record" => record_told(alloc, bytes),
             "crc32c" => sum_told(alloc, bytes),
             "name" => name_told(alloc, bytes),

@@ -15,6 +15,7 @@ mod case;
 mod disks;
 mod fakes;
 mod formats;
+mod heard;
 mod kinds;
 mod links;
 mod logs;

@@ -7,3 +7,7 @@ pub mod Heartbeats
 pub mod Groups
 pub mod Rules
 pub mod Cores
+pub mod Locating
+pub mod Grants
+pub mod Spans
+pub mod Fetches

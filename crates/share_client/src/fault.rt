@@ -26,7 +26,8 @@ fn within(place: u64) -> u32
     }
 }
 
-fn strange(place: u64) -> ClientFault
+/// A reply isn't one, at this place.
+pub fn strange(place: u64) -> ClientFault
     ensures { result ≡ Strange (within place) }
 {
     ClientFault::Strange {

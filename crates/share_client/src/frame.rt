@@ -71,7 +71,7 @@ pub fn request_frame<T: Wire>(alloc: Global, head: &RequestHead, body: &T) -> Re
 }
 
 // What stands behind the size of a frame.
-fn content(frame: &[u8]) -> &[u8]
+pub fn content(frame: &[u8]) -> &[u8]
     requires { 4 ≤ length frame.now }
     ensures { result.now ≡ drop 4 frame.now }
 {
