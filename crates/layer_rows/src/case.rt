@@ -1,5 +1,6 @@
 // The layer that lines are about, and what they give.
 use crate::adapters::Adapters;
+use crate::consumers::Consumers;
 use crate::formats::Formats;
 use crate::links::Links;
 use crate::parts::Parts;
@@ -23,6 +24,7 @@ enum Layer {
     Parts,
     Waits,
     Texts,
+    Consumers,
 }
 
 #[derive(Drop)]
@@ -37,6 +39,7 @@ pub struct Case {
     parts: Parts,
     waits: Waits,
     texts: Texts,
+    consumers: Consumers,
 }
 
 fn layer_of(name: &str) -> Option<Layer> {
@@ -50,6 +53,7 @@ fn layer_of(name: &str) -> Option<Layer> {
         "parts" => Some(Layer::Parts),
         "waits" => Some(Layer::Waits),
         "texts" => Some(Layer::Texts),
+        "consumers" => Some(Layer::Consumers),
         _ => None,
     }
 }
@@ -75,6 +79,7 @@ impl Case {
             parts: Parts::None,
             waits: Waits::new(alloc),
             texts: Texts::new(alloc),
+            consumers: Consumers::None,
         })
     }
 
@@ -102,6 +107,7 @@ impl Case {
             Layer::Parts => self.parts.told(alloc, kind, words),
             Layer::Waits => self.waits.told(alloc, kind, words),
             Layer::Texts => self.texts.told(alloc, kind, words),
+            Layer::Consumers => self.consumers.told(alloc, kind, words),
         }
     }
 }
@@ -116,6 +122,7 @@ impl Rows for Case {
         self.parts.set(Parts::None);
         self.waits.set(Waits::new(alloc));
         self.texts.set(Texts::new(alloc));
+        self.consumers.set(Consumers::None);
         self.formats.begin(alloc)
     }
 

@@ -8,12 +8,21 @@ use std::alloc::Global;
 use std::io;
 
 /// Whether the bytes are a frame.
-fn is_frame(bytes: &[u8]) -> bool
+pub fn is_frame(bytes: &[u8]) -> bool
     ensures { IsTrue result → IsFrame bytes.now }
 {
     match bytes.split_first_chunk::<4>() {
         Some((size, content)) => u32::from_be_bytes(*size) as usize == content.len(),
         None => false,
+    }
+}
+
+/// Why a consumer ends.
+pub fn fault_text(alloc: Global, fault: ClientFault) -> io::Result<String> {
+    match fault {
+        ClientFault::Refused { code } => Ok(format!(in alloc; "refused {code}")?),
+        ClientFault::Strange { place } => Ok(format!(in alloc; "strange {place}")?),
+        ClientFault::NoMemory => word(alloc, "no memory"),
     }
 }
 
@@ -24,8 +33,6 @@ pub fn heard_told(alloc: Global, frame: &[u8], most: u32) -> io::Result<String> 
     }
     match read_fetch(alloc, frame, most) {
         Ok(_) => word(alloc, "sound"),
-        Err(ClientFault::Refused { code }) => Ok(format!(in alloc; "refused {code}")?),
-        Err(ClientFault::Strange { place }) => Ok(format!(in alloc; "strange {place}")?),
-        Err(ClientFault::NoMemory) => word(alloc, "no memory"),
+        Err(fault) => fault_text(alloc, fault),
     }
 }

@@ -1,7 +1,7 @@
 -- Frames of requests and replies (Kafka protocol guide, "Protocol": a size of four bytes, a header and a body; RequestHeader.json
 -- version 2 and ResponseHeader.json version 1).
 -- For example the reply with correlation id 7 to a heartbeat that is refused with 81 is
--- `00000018 00000007 00 00000000 0051 00 00 00000000 00000000 ff 00`.
+-- `00000017 00000007 00 00000000 0051 00 00 00000000 00000000 ff 00`.
 use Rattle.std.specs.Prelude.{◌≡◌, ◌+◌, ◌≤◌, ℕ, ℤ, Bool, true, false, List, ◌++◌, length, take, drop, Result, Ok, Err, nat_lt, if◌then◌else◌}
 use Rattle.std.specs.Int.{w32, to_be_bytes, from_be_bytes}
 use Rattle.std.specs.Option.{option_map_or}
