@@ -13,6 +13,7 @@ mod bay;
 mod calls;
 mod case;
 mod consumers;
+mod describe_calls;
 mod disks;
 mod fakes;
 mod formats;

@@ -3,6 +3,11 @@ use crate::calls::{Message, MessageAt};
 use crate::kinds::{read_told, written_told};
 use crate::plain::fault_text;
 use flex_fields::Wire;
+use msgs_admin::{
+    DeleteOffsetsReply, DeleteOffsetsRequest, DescribeOffsetsReply, DescribeOffsetsRequest,
+    GroupDescribeReply, GroupDescribeRequest, ListGroupsReply, ListGroupsRequest, ListOffsetsReply,
+    ListOffsetsRequest,
+};
 use msgs_base::{
     ApiVersionsReply, ApiVersionsRequest, DeleteRecordsReply, DeleteRecordsRequest,
     FindCoordinatorReply, FindCoordinatorRequest, MetadataReply, MetadataRequest, ProduceReply,
@@ -124,6 +129,24 @@ fn share_told(alloc: Global, kind: &str, bytes: &[u8]) -> io::Result<Option<Stri
         "ShareAcknowledgeResponse" => told::<ShareAckReply>(alloc, bytes),
         "ShareGroupHeartbeatRequest" => told::<HeartbeatRequest>(alloc, bytes),
         "ShareGroupHeartbeatResponse" => told::<HeartbeatReply>(alloc, bytes),
+        _ => return describe_told(alloc, kind, bytes),
+    };
+    Ok(Some(text?))
+}
+
+/// What bytes are as a message of a call that tells how a queue is, or that gives a group's place up.
+fn describe_told(alloc: Global, kind: &str, bytes: &[u8]) -> io::Result<Option<String>> {
+    let text = match kind {
+        "ListOffsetsRequest" => told::<ListOffsetsRequest>(alloc, bytes),
+        "ListOffsetsResponse" => told::<ListOffsetsReply>(alloc, bytes),
+        "ListGroupsRequest" => told::<ListGroupsRequest>(alloc, bytes),
+        "ListGroupsResponse" => told::<ListGroupsReply>(alloc, bytes),
+        "ShareGroupDescribeRequest" => told::<GroupDescribeRequest>(alloc, bytes),
+        "ShareGroupDescribeResponse" => told::<GroupDescribeReply>(alloc, bytes),
+        "DescribeShareGroupOffsetsRequest" => told::<DescribeOffsetsRequest>(alloc, bytes),
+        "DescribeShareGroupOffsetsResponse" => told::<DescribeOffsetsReply>(alloc, bytes),
+        "DeleteShareGroupOffsetsRequest" => told::<DeleteOffsetsRequest>(alloc, bytes),
+        "DeleteShareGroupOffsetsResponse" => told::<DeleteOffsetsReply>(alloc, bytes),
         _ => return Ok(None),
     };
     Ok(Some(text?))

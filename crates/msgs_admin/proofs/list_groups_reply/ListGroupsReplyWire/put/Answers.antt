@@ -1,0 +1,7 @@
+use Rattle.flex_fields.proofs.Puts.{structure_put}
+use Rattle.msgs_admin.specs.ListGroupsReply.{list_groups_reply_shape, list_groups_reply}
+use Rattle.msgs_admin.proofs.list_groups_reply.ListGroupsReplyWire.put.Goals as goal
+
+pub returns-clause-ok : goal.returns-clause-ok
+unfolding list_groups_reply
+returns-clause-ok c = structure_put list_groups_reply_shape _ _ _ _ c.put_structure.result c.put_structure.ensures.ok

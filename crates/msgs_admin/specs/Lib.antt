@@ -1,0 +1,15 @@
+pub mod NamedTopic
+pub mod ListOffsetsRequest
+pub mod ListOffsetsReply
+pub mod ListGroupsRequest
+pub mod ListGroupsReply
+pub mod GroupDescribeRequest
+pub mod GroupDescribeReply
+pub mod DescribeOffsetsRequest
+pub mod KnownTag
+pub mod KnownTagRead
+pub mod HeldRecords
+pub mod DescribedPartition
+pub mod DescribeOffsetsReply
+pub mod DeleteOffsetsRequest
+pub mod DeleteOffsetsReply
