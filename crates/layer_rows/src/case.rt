@@ -3,6 +3,7 @@ use crate::adapters::Adapters;
 use crate::consumers::Consumers;
 use crate::formats::Formats;
 use crate::links::Links;
+use crate::merges::Merges;
 use crate::parts::Parts;
 use crate::runs::StoredRuns;
 use crate::stores::Stores;
@@ -23,6 +24,7 @@ enum Layer {
     Runs,
     Parts,
     Waits,
+    Merges,
     Texts,
     Consumers,
 }
@@ -38,6 +40,7 @@ pub struct Case {
     runs: StoredRuns,
     parts: Parts,
     waits: Waits,
+    merges: Merges,
     texts: Texts,
     consumers: Consumers,
 }
@@ -52,6 +55,7 @@ fn layer_of(name: &str) -> Option<Layer> {
         "runs" => Some(Layer::Runs),
         "parts" => Some(Layer::Parts),
         "waits" => Some(Layer::Waits),
+        "merges" => Some(Layer::Merges),
         "texts" => Some(Layer::Texts),
         "consumers" => Some(Layer::Consumers),
         _ => None,
@@ -78,6 +82,7 @@ impl Case {
             runs: StoredRuns::new(alloc),
             parts: Parts::None,
             waits: Waits::new(alloc),
+            merges: Merges::new(alloc),
             texts: Texts::new(alloc),
             consumers: Consumers::None,
         })
@@ -106,6 +111,7 @@ impl Case {
             Layer::Runs => self.runs.told(alloc, kind, words),
             Layer::Parts => self.parts.told(alloc, kind, words),
             Layer::Waits => self.waits.told(alloc, kind, words),
+            Layer::Merges => self.merges.told(alloc, kind, words),
             Layer::Texts => self.texts.told(alloc, kind, words),
             Layer::Consumers => self.consumers.told(alloc, kind, words),
         }
@@ -121,6 +127,7 @@ impl Rows for Case {
         self.runs.set(StoredRuns::new(alloc));
         self.parts.set(Parts::None);
         self.waits.set(Waits::new(alloc));
+        self.merges.set(Merges::new(alloc));
         self.texts.set(Texts::new(alloc));
         self.consumers.set(Consumers::None);
         self.formats.begin(alloc)

@@ -1,9 +1,9 @@
 //! Worked examples of the lower layers: formats, stores on disks in memory, what adapters ask of the system, links
-//! and clocks in memory, windows, runs, waits, texts, and a share consumer.
+//! and clocks in memory, windows, runs, waits, merges of tapes, texts, and a share consumer.
 //!
 //! A line `layer NAME` before the cases of a file says which they are about: `formats`, `stores`, `adapters`,
-//! `links`, `windows`, `runs`, `parts`, `waits`, `texts` or `consumers`. The head of the file with that name in `src/`
-//! says which lines there are.
+//! `links`, `windows`, `runs`, `parts`, `waits`, `merges`, `texts` or `consumers`. The head of the file with that name
+//! in `src/` says which lines there are.
 #![tactic(auto)]
 
 mod acks;
@@ -21,6 +21,7 @@ mod heard;
 mod kinds;
 mod links;
 mod logs;
+mod merges;
 mod messages;
 mod parts;
 mod plain;

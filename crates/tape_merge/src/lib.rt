@@ -15,8 +15,6 @@ mod run;
 mod tangle;
 mod tapes;
 mod tell;
-#[cfg(test)]
-mod tests;
 
 pub use apart::are_apart;
 pub use fault::MergeFault;
