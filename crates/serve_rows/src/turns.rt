@@ -4,7 +4,7 @@ ghost use Rattle.std.specs.List.{AllByRecursion};
 ghost use Rattle.edge_real.specs.Seen.{folder_view};
 ghost use Rattle.broker_core.specs.Bays.{AreOut};
 ghost use Rattle.broker_run.specs.Acting.{AreOf, HostsAll};
-ghost use Rattle.broker_run.specs.Rows.{IsRow};
+ghost use Rattle.broker_run.specs.Rows.{IsAlone};
 
 use crate::case::Case;
 use crate::disks::{MemFile, MemFolders, bay_of};
@@ -71,7 +71,7 @@ fn turns_of_row<R: Wait>(
     clock: &mut StepClock,
 ) -> io::Result<String>
     requires hosts { HostsAll shared.now.conf shared.now }
-    requires all { AllByRecursion (IsRow 1 shared.now) rows.items }
+    requires all { AllByRecursion (IsAlone shared.now) rows.items }
 {
     let mut rows = rows;
     let Some(passes) = rows.pop() else {
