@@ -30,8 +30,8 @@ pub struct Waits {
 /// id, no tags; and the body.
 fn fetch_frame(alloc: Global, body: &[u8]) -> io::Result<Vec<u8>> {
     let header = [0, 78, 0, 1, 0, 0, 0, 1, 255, 255, 0];
-    let size = (body.len() as u32).wrapping_add(11).to_be_bytes();
-    let mut frame = size.as_slice().to_vec(alloc)?;
+    let size = u32::try_from(body.len()).unwrap_or(0).saturating_add(11);
+    let mut frame = size.to_be_bytes().as_slice().to_vec(alloc)?;
     frame.extend_from_slice(&header)?;
     frame.extend_from_slice(body)?;
     Ok(frame)
