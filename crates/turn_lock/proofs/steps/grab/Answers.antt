@@ -1,0 +1,16 @@
+use Rattle.std.proofs.Common.{rules, ◌≡◌, ◌-◌, ◌==◌, ℕ, suc, subst, arith}
+use mathlib.Core.Option.{none}
+use prog.Atomic.{either}
+use Rattle.atomic_table.specs.Table.{Allows, step}
+use Rattle.turn_lock.specs.Rule.{Kept, grabbed}
+use Rattle.turn_lock.specs.Turns.{IsTurn}
+use Rattle.turn_lock.proofs.Turning.{grabs}
+use Rattle.turn_lock.proofs.steps.grab.Goals as goal
+
+pub compare_exchange-requires : goal.compare_exchange-requires
+compare_exchange-requires g c = let l = c.requires.leads in let is : suc (c.args.word - 1) ≡ c.args.word = let w = c.requires.some in omega arith in (
+  search rules,
+  search rules,
+  subst (λ (k : ℕ). Allows (Kept (IsTurn g.S.Shard.acts g.S.Shard.together) c.args.top.now.key.shard.value c.args.top.now.key.seats) c.args.top.now.table_id.slots c.args.place.now.id c.args.place.now.me k (λ n. either (n == 1) 0 n)
+      (grabbed (step c.args.top.now.table_id.slots k 1 0 none) c.args.place.now.me)) is (grabs (IsTurn g.S.Shard.acts g.S.Shard.together) _ _ _ _ (c.args.word - 1) _ l.0 l.1 l.2),
+)
