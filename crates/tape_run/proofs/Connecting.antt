@@ -1,18 +1,17 @@
 -- What happens to one connection, as it is found by its number.
-use Rattle.std.proofs.Common.{◌≡◌, ◌≢◌, ◌∙◌, ◌++◌, ℕ, Bool, true, false, cond, List, [], ◌∷◌, Option, Some, None, refl, sym, ap, subst}
+use Rattle.std.proofs.Common.{◌≡◌, ◌≢◌, ◌∙◌, ℕ, Bool, true, false, cond, [], ◌∷◌, Option, Some, None, refl, sym, ap, subst}
 use Rattle.std.proofs.lemmas.Map.Lookups.{exact_unsigned}
 use Rattle.std.specs.Ordering.{nat_cmp}
 use Rattle.std.specs.declared.cmp.Ordering.TheVariants.{Less}
 use Rattle.std.specs.Cmp.{nat_cmp_total}
 use Rattle.std.specs.List.{AllByRecursion}
 use Rattle.std.specs.Map.{remove_entry}
-use Rattle.std.specs.BTreeMap.{insert_entry}
-use Rattle.conn_core.specs.Conns.{ConnParts, conn_after_bytes, conn_after_end, is_gone, new_conn}
+use Rattle.conn_core.specs.Conns.{ConnParts, conn_after_end, is_gone, new_conn}
 use Rattle.broker_model.specs.Machine.{at_connection, conn_at, ended_in, left, named, opened, opened_at}
 use Rattle.broker_model.proofs.Lists.{some_same, none_not}
 use Rattle.broker_model.proofs.Maps.{Rises, removed_gone, removed_other, rises_removed, rises_set, set_found, set_other}
 use Rattle.broker_model.proofs.Others.{conn_other}
-use Rattle.tape_run.specs.Recordings.{closed, closed_if, kept}
+use Rattle.tape_run.specs.Recordings.{closed, kept}
 use Rattle.tape_run.proofs.Pieces.{Connections}
 
 -- the numbers rise strictly, so that each connection stands once

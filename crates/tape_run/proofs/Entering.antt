@@ -1,25 +1,20 @@
 -- What is left of each history, and an entry that a shard does next, among the others.
-use Rattle.std.proofs.Common.{◌≡◌, ◌≤◌, ◌<◌, ◌+◌, ◌∙◌, ℕ, zero, suc, Bool, true, false, cond, List, [], ◌∷◌, length, drop, map, slice_get, slice_index, Option, Some, None, inl, inr, refl, sym, ap, subst, arith}
-use Rattle.std.proofs.lemmas.Bool.{cases_Bool, cases_eq, eq-eqb, ne_eqb, true≢false}
-use Rattle.std.proofs.lemmas.Option.{none-some, same_Some, slice_get_within}
+use Rattle.std.proofs.Common.{◌≡◌, ◌≤◌, ◌<◌, ◌∙◌, ℕ, zero, suc, Bool, true, false, cond, List, [], ◌∷◌, length, drop, map, slice_get, slice_index, Option, Some, None, inl, inr, refl, sym, ap, subst, arith}
+use Rattle.std.proofs.lemmas.Bool.{cases_Bool, cases_eq, eq-eqb, ne_eqb}
+use Rattle.std.proofs.lemmas.Option.{none-some, same_Some}
 use Rattle.share_model.specs.declared.visit.ShardId.{ShardId}
 use Rattle.share_model.specs.declared.visit.ShardId.TheVariants.{Part as OfPart, Members, Foreign}
-use Rattle.share_members.specs.Groups.{Memberships}
 use Rattle.share_record.specs.declared.tag.Tag.{Tag}
 use Rattle.share_record.specs.declared.tape.LinkTape.{LinkTape}
 use Rattle.share_record.specs.declared.tape.ShardTape.{ShardTape}
 use Rattle.topic_conf.specs.Configs.{ConfigParts}
-use Rattle.broker_model.specs.Hosted.{hosted_of}
-use Rattle.broker_model.specs.Shards.{Counts, Ends, HostedPart, MembersCall, ShardCall, Shards, StepsHosted, StepsMembers, StepsShards, calls, hosted_by}
-use Rattle.broker_model.specs.Shards.ShardCall.{CallForeign, CallPart, CallMembers}
-use Rattle.broker_model.specs.Shards.MembersCall.{Beats, Ticks}
+use Rattle.broker_model.specs.Shards.{ShardCall, Shards, StepsShards, calls}
 use Rattle.broker_model.specs.States.{State, faults_of}
-use Rattle.broker_model.proofs.Lists.{maps_stay}
-use Rattle.tape_merge.specs.Matching.{AreApart, shard_of, tags_in, tags_of}
+use Rattle.tape_merge.specs.Matching.{shard_of, tags_in, tags_of}
 use Rattle.tape_merge.specs.Moves.{one_more}
 use Rattle.tape_merge.proofs.Counting.{more_other, more_same}
 use Rattle.tape_merge.proofs.Waits.{one_tape}
-use Rattle.tape_run.specs.Recordings.{Does, EndGoesOn, Entry, IsHistory, IsRecording, IsTagOf, IsTapeOf, Standing, behind, ends_between, history_of, shard_called, shard_in, standing, stands}
+use Rattle.tape_run.specs.Recordings.{Does, EndGoesOn, Entry, IsHistory, IsRecording, IsTagOf, Standing, behind, ends_between, history_of, shard_called, shard_in, standing, stands}
 use Rattle.tape_run.proofs.Moving.{call_stays, ends_behind_call, moves_so}
 use Rattle.tape_run.proofs.Owning.{history_owns, owns_once}
 use Rattle.tape_run.proofs.Pieces.{IsOf}

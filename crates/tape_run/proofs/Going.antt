@@ -1,7 +1,7 @@
 -- Events as pieces of a run: a close, a step of a connection, an expiry and a tick.
-use Rattle.std.proofs.Common.{◌≡◌, ◌≢◌, ◌≤◌, ◌∙◌, ◌++◌, ℕ, Bool, true, false, cond, List, [], ◌∷◌, Option, Some, None, refl, sym, ap, subst, arith, if◌then◌else◌}
+use Rattle.std.proofs.Common.{◌≡◌, ◌≢◌, ◌≤◌, ◌∙◌, ℕ, Bool, true, false, cond, List, [], ◌∷◌, Option, Some, None, refl, sym, ap, subst, arith, if◌then◌else◌}
 use Rattle.session_script.specs.declared.event.Event.{Event}
-use Rattle.session_script.specs.declared.event.Event.TheVariants.{Open, Bytes, Close, Step as StepOf, Expire, Tick, Arm, Power}
+use Rattle.session_script.specs.declared.event.Event.TheVariants.{Open, Bytes, Close, Step as StepOf, Expire, Tick}
 use Rattle.session_script.specs.declared.event.Outcome.{Outcome}
 use Rattle.topic_conf.specs.Configs.{ConfigParts}
 use Rattle.topic_conf.specs.Topics.{shard_named}
@@ -9,17 +9,15 @@ use Rattle.conn_core.specs.declared.next.Next.{Next}
 use Rattle.conn_core.specs.declared.next.Next.TheVariants.{Idle, Ask, Ready, Closed as NextClosed, Gone}
 use Rattle.conn_core.specs.Conns.{ConnParts, conn_after_bytes, new_conn}
 use Rattle.conn_core.specs.Turning.{turn}
-use Rattle.broker_model.specs.Disks.{Disks, OnCalled, OnDisk}
+use Rattle.broker_model.specs.Disks.{Disks, OnDisk}
 use Rattle.broker_model.specs.Hosted.{IsLogName}
-use Rattle.broker_model.specs.Machine.{Machine, at_connection, conn_at, ended_in, left, opened}
+use Rattle.broker_model.specs.Machine.{at_connection, conn_at, ended_in, left, opened}
 use Rattle.broker_model.specs.Shards.{Counts, Ends, ShardCall, Shards, StepsShards, calls, faults_told}
-use Rattle.broker_model.specs.Shards.ShardCall.{CallForeign, CallPart, CallMembers}
-use Rattle.broker_model.specs.Shards.MembersCall.{Ticks}
 use Rattle.broker_model.specs.States.{IsStep, OnEnd, OnLosses, State, counts_of, ends_of}
-use Rattle.broker_model.specs.Steps.{CallsShard, Does, ExpiresAt, IsExpiry, IsTick, Serves, StepsTo, TakesTurn as TakesTurnAll}
+use Rattle.broker_model.specs.Steps.{Does, ExpiresAt, IsExpiry, IsTick, Serves, StepsTo}
 use Rattle.broker_model.proofs.Lists.{none_not, some_same}
 use Rattle.broker_model.proofs.Others.{conn_other}
-use Rattle.tape_run.specs.Recordings.{EndGoesOn, Standing, StepsLink, TakesTurn, closed, closed_if, kept, standing}
+use Rattle.tape_run.specs.Recordings.{EndGoesOn, StepsLink, TakesTurn, closed_if, standing}
 use Rattle.tape_run.proofs.Connecting.{InOrder, changed_found, close_found, close_other, close_rises, left_found, left_other, left_rises, open_found, open_other, open_rises, rises_changed}
 use Rattle.tape_run.proofs.Moving.{ends_behind_call}
 use Rattle.tape_run.proofs.Pieces.{Connections, IsOf, Piece, Telling, no_piece, nothing, one_piece, state_of, told_once, untouched}

@@ -1,40 +1,38 @@
 -- The whole session: what a merge keeps from move to move, and where it ends.
-use Rattle.std.proofs.Common.{◌≡◌, ◌≢◌, ◌≤◌, ◌<◌, ◌+◌, ◌++◌, ◌&&◌, ◌∙◌, ℕ, zero, suc, Bool, true, false, cond, eqb, List, [], ◌∷◌, length, drop, map, slice_get, slice_index, Option, Some, None, inl, inr, refl, sym, ap, subst, arith, append_assoc}
-use Rattle.std.proofs.lemmas.Bool.{cases_Bool, cases_eq, eq-eqb, eqb-true, ne_eqb, true≢false}
+use Rattle.std.proofs.Common.{◌≡◌, ◌<◌, ◌++◌, ◌&&◌, ◌∙◌, ℕ, suc, Bool, true, false, cond, eqb, List, [], ◌∷◌, length, drop, map, slice_get, slice_index, Option, Some, None, inl, inr, refl, sym, ap, subst, arith}
+use Rattle.std.proofs.lemmas.Bool.{cases_eq, eq-eqb, eqb-true, ne_eqb}
 use Rattle.std.proofs.lemmas.List.{drop_all}
 use Rattle.std.proofs.lemmas.Option.{none-some, same_Some, slice_get_within}
 use Rattle.session_script.specs.declared.event.Event.{Event}
-use Rattle.session_script.specs.declared.event.Event.TheVariants.{Open, Bytes, Close, Step as StepOf, Expire as ExpireAt, Tick as TickAt}
+use Rattle.session_script.specs.declared.event.Event.TheVariants.{Close, Step as StepOf, Expire as ExpireAt, Tick as TickAt}
 use Rattle.session_script.specs.declared.event.Outcome.{Outcome}
-use Rattle.share_model.specs.declared.visit.ExpireAnswer.{ExpireAnswer}
 use Rattle.share_model.specs.declared.visit.ShardId.{ShardId}
-use Rattle.share_model.specs.declared.visit.ShardId.TheVariants.{Part as OfPart, Members, Foreign}
+use Rattle.share_model.specs.declared.visit.ShardId.TheVariants.{Part as OfPart}
 use Rattle.share_record.specs.declared.tag.Tag.{Tag}
 use Rattle.share_record.specs.declared.tag.Tag.TheVariants.{Part, Expire, Tick, Offer}
 use Rattle.share_record.specs.declared.tape.LinkStep.{LinkStep}
 use Rattle.share_record.specs.declared.tape.LinkTape.{LinkTape}
 use Rattle.share_record.specs.declared.tape.ShardTape.{ShardTape}
 use Rattle.topic_conf.specs.Configs.{ConfigParts}
-use Rattle.topic_conf.specs.Topics.{partition_at_shard, partitions, shard_named}
+use Rattle.topic_conf.specs.Topics.{partition_at_shard, shard_named}
 use Rattle.topic_conf.specs.declared.topic.Topic.{Topic}
 use Rattle.topic_conf.proofs.Partitions.{none_above, shard_by_name}
 use Rattle.conn_core.specs.Conns.{ConnParts}
-use Rattle.broker_model.specs.Hosted.{Hosted}
 use Rattle.broker_model.specs.Machine.{conn_at}
 use Rattle.broker_model.specs.Runs.{made}
 use Rattle.broker_model.specs.Shards.{ShardCall, Shards, StepsShards, calls}
 use Rattle.broker_model.specs.States.{State}
-use Rattle.broker_model.specs.Steps.{IsExpiry, IsTick}
+use Rattle.broker_model.specs.Steps.{IsExpiry}
 use Rattle.tape_merge.specs.declared.moves.Move.{Move}
 use Rattle.tape_merge.specs.declared.moves.Move.TheVariants.{Steps, Alone}
-use Rattle.tape_merge.specs.Matching.{Names, shard_of, steps_in, steps_of, tags_in, tags_of}
-use Rattle.tape_merge.specs.Moves.{CanGo, Counts, GoOn, GoesAlone, IsAlone, IsDone, IsDueOn, IsSized, StepGoes, after, next_step, next_tag, one_more, passed_on}
+use Rattle.tape_merge.specs.Matching.{steps_in, steps_of, tags_in}
+use Rattle.tape_merge.specs.Moves.{CanGo, Counts, GoOn, IsAlone, IsDone, IsDueOn, IsSized, after, next_tag, one_more, passed_on}
 use Rattle.tape_merge.specs.Telling.{close_at, ends_behind, expiry, last_close, told, told_by, told_by_link, told_by_tag, told_by_tape}
-use Rattle.tape_merge.proofs.Counting.{link_within, more_other, more_same, sized_after, tape_within}
-use Rattle.tape_run.specs.Recordings.{Entry, IsCallOf, IsNamedBy, IsRecording, IsTagOf, Plays, PlaysStep, Standing, StepsLink, behind, closed_if, history_of, shard_called, shard_in, standing, stands}
+use Rattle.tape_merge.proofs.Counting.{more_other, more_same, sized_after, tape_within}
+use Rattle.tape_run.specs.Recordings.{Entry, IsCallOf, IsNamedBy, IsRecording, IsTagOf, Plays, PlaysStep, Standing, behind, closed_if, history_of, shard_called, shard_in, standing, stands}
 use Rattle.tape_run.proofs.Connecting.{InOrder}
 use Rattle.tape_run.proofs.Going.{Acts, Changes, calling, closes, expires, steps_asked, steps_quiet, ticks}
-use Rattle.tape_run.proofs.Entering.{AreCalls, AreLeft, Entered, Left, drop_cons, drop_past, entered, entry_there, mapped_past, tape_there}
+use Rattle.tape_run.proofs.Entering.{AreCalls, AreLeft, Entered, drop_cons, drop_past, entered, entry_there, mapped_past, tape_there}
 use Rattle.tape_run.proofs.Moving.{ends_behind_call}
 use Rattle.tape_run.proofs.Pieces.{Connections, IsOf, Piece, Telling, both, both_pieces, events_so, nil_last, no_piece, nothing, state_of, tells_so, told_once}
 

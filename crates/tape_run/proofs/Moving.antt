@@ -1,5 +1,5 @@
 -- A call of a shard alone is one of that shard among the others.
-use Rattle.std.proofs.Common.{◌≡◌, ◌∙◌, ◌||◌, ℕ, zero, suc, List, [], ◌∷◌, slice_get, Bool, true, false, cond, Option, Some, None, refl, sym, ap, subst}
+use Rattle.std.proofs.Common.{◌≡◌, ◌∙◌, ◌||◌, ℕ, zero, suc, List, [], ◌∷◌, slice_get, Bool, true, false, cond, Option, Some, refl, sym, ap, subst}
 use Rattle.share_model.specs.declared.visit.ShardId.{ShardId}
 use Rattle.share_model.specs.declared.visit.ShardId.TheVariants.{Part as OfPart, Members, Foreign}
 use Rattle.share_members.specs.Groups.{Memberships}
@@ -7,13 +7,13 @@ use Rattle.share_part.specs.Shards.{PartShardState}
 use Rattle.foreign_coord.specs.Shards.{ForeignShardState, StepsForeign}
 use Rattle.topic_conf.specs.Configs.{ConfigParts}
 use Rattle.broker_model.specs.Hosted.{ChangesAt, Hosted, first_of, foreign_store, has_disk, log_of, second_of, state_a, state_b, state_store}
-use Rattle.broker_model.specs.Shards.{Counts, Ends, HostedPart, MembersCall, PartCall, ShardCall, Shards, StepsHosted, StepsMembers, StepsPart, StepsShards, calls, hosted_by, part_calls, reads_log, rose_on}
+use Rattle.broker_model.specs.Shards.{Counts, Ends, HostedPart, MembersCall, PartCall, ShardCall, Shards, StepsHosted, StepsMembers, StepsPart, StepsShards, calls, hosted_by, part_calls, rose_on}
 use Rattle.broker_model.specs.Shards.ShardCall.{CallForeign, CallPart, CallMembers}
 use Rattle.broker_model.specs.Shards.PartCall.{Visits, Produces, Looks, Expires, Deletes}
 use Rattle.broker_model.specs.Shards.MembersCall.{Beats, Ticks}
 use Rattle.broker_model.proofs.Lists.{maps_stay, none_not, some_same}
 use Rattle.broker_model.proofs.Stores.{has_first, same_self}
-use Rattle.tape_run.specs.Recordings.{OneShard, Standing, ends_between, shard_called, shard_in, standing}
+use Rattle.tape_run.specs.Recordings.{Standing, ends_between, shard_called, shard_in}
 use Rattle.tape_run.specs.Recordings.OneShard.{OnePart, OneMembers, OneForeign}
 use Rattle.tape_run.proofs.Pieces.{IsOf}
 

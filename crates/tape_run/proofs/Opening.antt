@@ -1,12 +1,11 @@
 -- How a session opens its links, and the session as a whole.
-use Rattle.std.proofs.Common.{◌≡◌, ◌≢◌, ◌≤◌, ◌<◌, ◌+◌, ◌-◌, ◌*◌, ◌/◌, ◌++◌, ◌&&◌, ◌∙◌, ℕ, zero, suc, Bool, true, false, cond, eqb, List, [], ◌∷◌, length, drop, take, map, slice_get, slice_index, Option, Some, None, inl, inr, refl, sym, ap, subst, arith, append_assoc, append-nil, length-drop}
+use Rattle.std.proofs.Common.{◌≡◌, ◌≤◌, ◌<◌, ◌+◌, ◌-◌, ◌*◌, ◌/◌, ◌++◌, ◌&&◌, ◌∙◌, ℕ, zero, suc, Bool, cond, eqb, List, [], ◌∷◌, length, drop, take, map, slice_get, Option, Some, None, inl, inr, refl, sym, ap, subst, arith, append_assoc, append-nil, length-drop}
 use Rattle.std.proofs.lemmas.Bool.{cases_lt, eqb-true}
 use Rattle.std.proofs.lemmas.List.{nil_from_length, take-append-drop}
 use Rattle.std.proofs.lemmas.Option.{none-some, same_Some}
 use Rattle.session_script.specs.declared.event.Event.{Event}
 use Rattle.session_script.specs.declared.event.Event.TheVariants.{Open, Bytes, Close}
 use Rattle.session_script.specs.declared.event.Outcome.{Outcome}
-use Rattle.share_record.specs.declared.tape.LinkStep.{LinkStep}
 use Rattle.share_record.specs.declared.tape.LinkTape.{LinkTape}
 use Rattle.share_record.specs.declared.tape.ShardTape.{ShardTape}
 use Rattle.topic_conf.specs.Configs.{ConfigParts}
@@ -14,17 +13,17 @@ use Rattle.conn_core.specs.Conns.{ConnParts, conn_after_bytes, new_conn}
 use Rattle.conn_core.specs.declared.work.Work.TheVariants.{Free}
 use Rattle.broker_model.specs.Machine.{conn_at}
 use Rattle.broker_model.specs.Shards.{Shards}
-use Rattle.broker_model.specs.States.{State, faults_of}
+use Rattle.broker_model.specs.States.{State}
 use Rattle.tape_merge.specs.Merges.{IsMerge}
 use Rattle.tape_merge.specs.Moves.{begin}
-use Rattle.tape_merge.specs.Telling.{close_at, ends_behind, last_close, opening, openings, pieces, pieces_of, told}
+use Rattle.tape_merge.specs.Telling.{ends_behind, opening, openings, pieces, pieces_of, told}
 use Rattle.tape_merge.proofs.Counting.{sized_at_first, zero_at}
-use Rattle.tape_run.specs.Recordings.{AreOfLink, Entry, IsLinkTape, IsRecording, Plays, Standing, behind, closed_if, history_of, stands}
+use Rattle.tape_run.specs.Recordings.{AreOfLink, Entry, IsRecording, Plays, closed_if, history_of, stands}
 use Rattle.tape_run.specs.Sessions.{IsSession, calls_on}
 use Rattle.tape_run.proofs.Connecting.{InOrder}
-use Rattle.tape_run.proofs.Entering.{AreLeft, Left}
+use Rattle.tape_run.proofs.Entering.{Left}
 use Rattle.tape_run.proofs.Going.{Changes, closes, gets, opens}
-use Rattle.tape_run.proofs.Merging.{GoesAll, Keeps, goes_all, last_close_is, plays_end}
+use Rattle.tape_run.proofs.Merging.{Keeps, goes_all, last_close_is, plays_end}
 use Rattle.tape_run.proofs.Pieces.{Connections, IsOf, Piece, both, both_pieces, events_so, no_piece, nothing, state_of}
 
 -- ---- pieces of bytes

@@ -1,21 +1,21 @@
 -- No disk is of two shards, so that no two histories call one.
-use Rattle.std.proofs.Common.{◌≡◌, ◌≢◌, ◌⊎◌, ◌∙◌, ◌++◌, ◌||◌, ◌&&◌, ℕ, zero, suc, Bool, true, false, List, [], ◌∷◌, map, slice_get, Option, Some, None, inl, inr, refl, sym, ap, subst}
+use Rattle.std.proofs.Common.{◌≡◌, ◌∙◌, ◌++◌, ◌&&◌, ℕ, zero, suc, true, List, [], ◌∷◌, slice_get, Some, inl, inr, refl, sym, ap, subst}
 use Rattle.std.proofs.lemmas.Bool.{true≢false}
 use Rattle.std.proofs.lemmas.Option.{none-some, same_Some}
 use Rattle.share_model.specs.declared.visit.ShardId.{ShardId}
 use Rattle.share_model.specs.declared.visit.ShardId.TheVariants.{Part as OfPart, Members, Foreign}
 use Rattle.topic_conf.specs.Configs.{ConfigParts}
 use Rattle.topic_conf.specs.Topics.{IsTopicList}
-use Rattle.broker_model.specs.Hosted.{Hosted, IsOneOf, disks_of, first_of, foreign_store, has_disk, hosted_of, log_of, log_store, part_disks, same_name, second_of, state_a, state_b, state_store}
+use Rattle.broker_model.specs.Hosted.{Hosted, IsOneOf, disks_of, first_of, has_disk, hosted_of, log_of, log_store, part_disks, second_of, state_a, state_b, state_store}
 use Rattle.broker_model.specs.Shards.{Counts, Ends, HostedPart, PartCall, ShardCall, Shards, StepsShards, calls, hosted_by, part_calls, reads_log}
 use Rattle.broker_model.specs.Shards.ShardCall.{CallForeign, CallPart, CallMembers}
 use Rattle.broker_model.specs.Shards.PartCall.{Visits, Produces, Looks, Expires, Deletes}
 use Rattle.broker_model.proofs.Stores.{both_of, is_same, one_of, two_disks}
-use Rattle.broker_core.specs.Hosts.{AreDistinct, NotIn, all_names}
+use Rattle.broker_core.specs.Hosts.{AreDistinct, all_names}
 use Rattle.broker_core.proofs.Naming.{distinct_names}
-use Rattle.broker_core.proofs.Places.{apart_from, distinct_front, not_both, not_in_front, not_in_rest, one_in_front, one_in_rest}
-use Rattle.tape_run.specs.Recordings.{Does, Entry, IsHistory, Standing, ends_between, shard_called}
-use Rattle.tape_run.proofs.Moving.{Changed, call_stays, changed}
+use Rattle.broker_core.proofs.Places.{apart_from, distinct_front, not_both, one_in_front, one_in_rest}
+use Rattle.tape_run.specs.Recordings.{Entry, IsHistory, Standing, ends_between, shard_called}
+use Rattle.tape_run.proofs.Moving.{call_stays, changed}
 use Rattle.tape_run.proofs.Pieces.{IsOf}
 
 -- ---- the disks of each shard

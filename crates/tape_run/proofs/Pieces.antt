@@ -1,18 +1,14 @@
 -- Pieces of a run: what it tells each connection, and what two of them make.
-use Rattle.std.proofs.Common.{◌≡◌, ◌++◌, ◌∙◌, inl, ℕ, List, [], ◌∷◌, map, Bool, true, false, cond, eqb, Option, Some, None, refl, sym, ap, subst, arith, append_assoc}
-use Rattle.edge_io.specs.Armed.{Spends}
+use Rattle.std.proofs.Common.{◌≡◌, ◌++◌, ◌∙◌, inl, ℕ, List, [], ◌∷◌, Bool, true, false, Option, refl, sym, ap, subst, append_assoc}
 use Rattle.session_script.specs.declared.event.Event.{Event}
-use Rattle.session_script.specs.declared.event.Event.TheVariants.{Open, Bytes, Close, Step as StepOf, Expire, Tick, Arm, Power}
 use Rattle.session_script.specs.declared.event.Outcome.{Outcome}
 use Rattle.topic_conf.specs.Configs.{ConfigParts}
 use Rattle.conn_core.specs.Conns.{ConnParts}
-use Rattle.broker_model.specs.Disks.{Disks, Facts, IsUsed, OnCalled, OnDisk}
-use Rattle.broker_model.specs.Hosted.{IsTaken, hosted_of}
-use Rattle.broker_model.specs.Machine.{Machine}
+use Rattle.broker_model.specs.Disks.{Disks, Facts, OnCalled}
+use Rattle.broker_model.specs.Hosted.{hosted_of}
 use Rattle.broker_model.specs.Runs.{IsRun, Step, calls_made, events_of, made}
 use Rattle.broker_model.specs.Shards.{ShardCall, Shards, hosted_by}
-use Rattle.broker_model.specs.States.{IsStep, OnEnd, State, counts_of, ends_of}
-use Rattle.broker_model.specs.Steps.{StepsTo}
+use Rattle.broker_model.specs.States.{IsStep, State}
 use Rattle.tape_run.specs.Sessions.{told_in, told_to}
 
 abbrev pub Connections : Type 0

@@ -1,5 +1,5 @@
 -- A step in which no write and no reading fails on a device is one at counts of faults that stand.
-use Rattle.std.proofs.Common.{◌≡◌, ◌+◌, ◌≤◌, ◌∙◌, ◌⊎◌, ℕ, ℤ, Bool, true, false, List, [], ◌∷◌, cond, Option, Some, None, inl, inr, refl, sym, ap, subst, arith}
+use Rattle.std.proofs.Common.{◌≡◌, ◌+◌, ◌∙◌, ℕ, ℤ, Bool, true, false, List, [], ◌∷◌, cond, Option, Some, None, inl, inr, refl, sym, ap, arith}
 use Rattle.edge_io.specs.Causes.{Rose}
 use Rattle.share_model.specs.ShareStates.{ShareState}
 use Rattle.share_model.specs.declared.delete.DeleteAnswer.{DeleteAnswer}
@@ -23,14 +23,13 @@ use Rattle.foreign_coord.specs.Shards.{ForeignShardState, StepsForeign}
 use Rattle.part_log.specs.Shards.{LogShardState, StepsLog}
 use Rattle.share_part.specs.declared.limits.Limits.{Limits}
 use Rattle.share_part.specs.Acknowledging.{Acknowledges, StoresActs}
-use Rattle.share_part.specs.Deleting.{Deletes as DeletesSo, StepsDelete}
-use Rattle.share_part.specs.Expiring.{StepsExpire, StepsGroup, StepsGroups, due_count, ending, more_freed}
+use Rattle.share_part.specs.Deleting.{Deletes as DeletesSo}
+use Rattle.share_part.specs.Expiring.{StepsGroup, StepsGroups, due_count, ending, more_freed}
 use Rattle.share_part.specs.Following.{Does as Follow, Fetches, Follows, MakesTable, fault_of, releases_of}
 use Rattle.share_part.specs.Hosting.{PartConfParts}
 use Rattle.share_part.specs.Named.{named_from}
 use Rattle.share_part.specs.Settling.{Acts}
-use Rattle.share_part.specs.Shards.{PartShardState, StepsProduce, base_in}
-use Rattle.share_part.specs.Visits.{StepsVisit}
+use Rattle.share_part.specs.Shards.{PartShardState, base_in}
 use Rattle.broker_model.specs.Hosted.{Hosted, log_of, foreign_store, state_a, state_store}
 use Rattle.broker_model.specs.Shards.{Counts, Ends, HostedPart, PartCall, ShardCall, Shards, StepsHosted, StepsPart, StepsShards, faults_before, faults_behind, faults_met, log_faults_met, result_of, rose_at, rose_on, state_faults_met, store_fault_of_ack, store_fault_of_delete, store_fault_of_expiry, store_fault_of_log, store_fault_of_then}
 use Rattle.broker_model.specs.Shards.ShardCall.{CallForeign, CallPart, CallMembers}
