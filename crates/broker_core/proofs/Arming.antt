@@ -21,7 +21,8 @@ use Rattle.broker_model.proofs.Lists.{change_of, changes_so}
 use Rattle.broker_core.specs.declared.slot.ForeignSlot.{ForeignSlot}
 use Rattle.broker_core.specs.declared.slot.PartState.{PartState}
 use Rattle.broker_core.specs.declared.slot.PartSlot.{PartSlot}
-use Rattle.broker_core.specs.Carried.{GoesOn, IsCarried, IsFed, IsPartCarried, OpenPart, PartGoesOn, holding}
+use Rattle.broker_core.specs.Carried.{GoesOn, IsCarried, IsFed, IsPartCarried, OpenPart, PartGoesOn}
+use Rattle.broker_shards.specs.Hosts.{holding}
 use Rattle.broker_core.specs.Foreign.{ArmsForeign, ArmsEither}
 use Rattle.broker_core.specs.Hosts.{AreApart, AreCarried, AreDistinct, AreNamed, ArmsPlace, ArmsSlot, BothGoOn, DiskGoesOn, GoOn, HostsParts, IsPartSlot, IsPartState, IsSlot, NotIn, among, disks_in, ends_in, facts_at, facts_in, foreign_disks, foreign_end, foreign_facts, hosted_slot, hosted_slots, open_disk, part_disk, part_end, slot_disks, slot_ends, slots_disks}
 use Rattle.broker_core.specs.Cores.{IsArmed}

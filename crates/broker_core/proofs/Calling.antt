@@ -1,34 +1,30 @@
 -- Calls on the shard of a hosted partition, seen by all shards.
-use Rattle.std.proofs.Common.{◌≡◌, ◌⊎◌, inl, inr, refl, sym, ap, ◌∙◌, subst, ℕ, ℤ, zero, suc, List, [], ◌∷◌, Bool, false, Some}
+use Rattle.std.proofs.Common.{◌≡◌, ◌⊎◌, inl, inr, refl, sym, ap, ◌∙◌, subst, ℕ, List, false, Some, Result, Ok, Err, IfOk, OnErr}
+use Rattle.flex_fields.specs.declared.fault.NoMemory.{NoMemory as Want}
 use Rattle.std.specs.List.{AllZip}
 use Rattle.std.specs.declared.option.Option.{Option}
 use Rattle.edge_io.specs.declared.name.DiskPlace.{DiskPlace}
 use Rattle.edge_io.specs.declared.name.DiskPlace.TheVariants.{Log, StateA, StateB}
 use Rattle.share_part.specs.Hosting.{PartConfParts}
-use Rattle.share_model.specs.declared.delete.DeleteAnswer.{DeleteAnswer}
-use Rattle.share_model.specs.declared.visit.Visit.{Visit}
 use Rattle.call_fold.specs.declared.part.Part.{Part}
-use Rattle.call_fold.specs.declared.part.Part.TheVariants.{Produce, Delete as PartDelete, Visit as PartVisit, Look, Heartbeat}
-use Rattle.call_fold.specs.declared.part.PartAnswer.TheVariants.{Produce as AnswerProduce, Delete as AnswerDelete, Visit as AnswerVisit, Look as AnswerLook, Heartbeat as AnswerHeartbeat}
-use Rattle.call_fold.specs.declared.part.Looked.{Looked}
-use Rattle.call_fold.specs.declared.part.Produced.{Produced}
+use Rattle.call_fold.specs.declared.part.Part.TheVariants.{Heartbeat}
+use Rattle.call_fold.specs.declared.part.PartAnswer.TheVariants.{Heartbeat as AnswerHeartbeat}
 use Rattle.msgs_group.specs.declared.heartbeat_request.HeartbeatRequest.{HeartbeatRequest}
 use Rattle.msgs_group.specs.declared.heartbeat_reply.HeartbeatReply.{HeartbeatReply}
-use Rattle.share_model.specs.declared.visit.ExpireAnswer.{ExpireAnswer}
-use Rattle.share_model.specs.declared.visit.VisitAnswer.{VisitAnswer}
 use Rattle.broker_model.specs.Hosted.{ChangesAt, HoldsAt, Hosted, first_of, log_of, part_disks, second_of}
-use Rattle.broker_model.specs.Shards.{Counts, Ends, HostedPart, PartCall, Shards, ShardCall, StepsHosted, StepsShards, fault_of_expiry, part_calls}
+use Rattle.broker_model.specs.Shards.{Counts, Ends, HostedPart, PartCall, Shards, ShardCall, StepsHosted, StepsShards, part_calls}
 use Rattle.broker_model.specs.Shards.ShardCall.{CallPart, CallMembers}
 use Rattle.broker_model.specs.Shards.MembersCall.{Beats}
-use Rattle.broker_model.specs.Shards.PartCall.{Visits, Produces, Looks, Expires, Deletes}
 use Rattle.broker_model.specs.Disks.{Facts, OnCalled}
 use Rattle.broker_model.proofs.Lists.{change_of, changes_so}
 use Rattle.broker_core.specs.declared.slot.PartState.{PartState}
 use Rattle.broker_core.specs.declared.slot.PartSlot.{PartSlot}
 use Rattle.broker_model.specs.Acting.{EndsGoOn, StepsOn}
 use Rattle.edge_io.specs.Disk.{IsTold}
-use Rattle.broker_core.specs.Carried.{GoesOn, IsPartCarried, OpenPart, PartGoesOn, Uses}
-use Rattle.broker_core.specs.Hosts.{AreApart, AreCarried, AreDistinct, AreOpen, Did, DiskGoesOn, ExpiresShard, GoesOnIf, GoOn, Halts, HaltsSlot, HostsParts, IsOpenState, IsPartSlot, IsPartState, Leads, LeadsSlot, LogsLater, StaysHosted, among, counts_in, disks_in, ends_in, ends_over, facts_at, facts_in, foreign_disks, foreign_end, foreign_facts, hosted_slot, hosted_slots, open_disk, part_disk, slot_disks, slot_ends}
+use Rattle.broker_shards.specs.declared.part.PartAsk.{PartAsk}
+use Rattle.broker_shards.specs.declared.part.PartTold.{PartTold}
+use Rattle.broker_core.specs.Carried.{GoesOn, IsCall, IsPartCarried, OpenPart, PartGoesOn, Uses}
+use Rattle.broker_core.specs.Hosts.{AreApart, AreCarried, AreDistinct, AreOpen, Did, DidPart, DiskGoesOn, GoesOnIf, GoOn, Halts, HaltsSlot, HostsParts, IsOpenState, IsPartSlot, IsPartState, Leads, LeadsSlot, LogsLater, StaysHosted, among, counts_in, disks_in, ends_in, ends_over, facts_at, facts_in, foreign_disks, foreign_end, foreign_facts, hosted_slot, hosted_slots, open_disk, part_disk, slot_disks, slot_ends}
 use Rattle.broker_core.proofs.Flats.{among_changed, zip_flat}
 use Rattle.broker_core.proofs.Leading.{StillSlot, halts_still, open_still, parts_apart, parts_still, same_both, same_goes, slot_still, still_foreign}
 use Rattle.broker_core.proofs.Reaching.{SlotLater, SlotReaches, names_later, names_reach, open_reaches, same_later, slot_later, slot_reaches, slots_reach}
@@ -223,10 +219,6 @@ module _ {D : Type 0} (seen : D → DiskView) where
         (λ a b i. subst (λ (s : PartSlot D). SlotLater seen s b) (sym i.0) (subst (λ (s : PartSlot D). SlotLater seen x s) (sym i.1) later))
         n old.parts ys exact)
 
-  -- the call on the shard of this number, by a hosted partition
-  abbrev pub DidPart : Counts → (ends : Ends) → (now n : ℕ) → PartCall → Shards → Option ShardCall → Shards → Type 0
-  DidPart counts ends now n did a call b = (h : Hosted) × (call ≡ Some (CallPart n h did)) × StepsShards counts ends now a (CallPart n h did) b
-
   pub part_leads : (old : HostsParts D) (ys : List (PartSlot D)) (n now : ℕ) (did : PartCall) → ChangesAt n (LeadsS now did) old.parts ys → AreApart old
       → (s : Shards) → K old s
       → Leads seen old s (with_parts old ys) (DidPart (N old (with_parts old ys)) (ends_over old (with_parts old ys)) now n did)
@@ -386,74 +378,24 @@ module _ {D : Type 0} (seen : D → DiskView) where
       (halts_still seen old s _ k)
   part_halts old ys n now Whole (inr changes) apart s k = halted_at old ys n now Whole changes apart s k
 
-  -- what holds of the disks either way
-  pub may_on : (old : HostsParts D) (ys : List (PartSlot D)) (n now : ℕ) (Whole : PartCall → Type 0)
-      → MayHalt n now Whole old.parts ys → (Q : HostsParts D → Type 0) → Q old → (ChangesAt n Turned old.parts ys → Q (with_parts old ys))
-      → Q (with_parts old ys)
-  may_on old ys n now Whole (inl same) Q q f = subst (λ (zs : List (PartSlot D)). Q (with_parts old zs)) (sym same) q
-  may_on old ys n now Whole (inr changes) Q q f =
-      f (changes_so n (HaltsS now Whole) Turned (turned_halts now Whole) old.parts ys changes)
+  -- ---- what any act leaves
 
-  pub led_turned : (n now : ℕ) (did : PartCall) (xs ys : List (PartSlot D)) → ChangesAt n (LeadsS now did) xs ys → ChangesAt n Turned xs ys
-  led_turned n now did xs ys c = changes_so n (LeadsS now did) Turned (turned_leads now did) xs ys c
+  abbrev pub MayTurn : ℕ → List (PartSlot D) → List (PartSlot D) → Type 0
+  MayTurn n xs ys = (ys ≡ xs) ⊎ ChangesAt n Turned xs ys
 
-  -- ---- a look changes nothing
+  pub act_turns : (result : Result PartTold Want) (asked : PartAsk) (n now : ℕ) (Whole : PartCall → Type 0) (xs ys : List (PartSlot D))
+      → IfOk result (λ told. (did : PartCall) × IsCall asked told did × ChangesAt n (LeadsS now did) xs ys)
+      → OnErr result (MayHalt n now Whole xs ys) → MayTurn n xs ys
+  act_turns (Ok told) asked n now Whole xs ys ok err = inr (changes_so n (LeadsS now ok.0) Turned (turned_leads now ok.0) xs ys ok.2)
+  act_turns (Err fault) asked n now Whole xs ys ok (inl same) = inl same
+  act_turns (Err fault) asked n now Whole xs ys ok (inr c) = inr (changes_so n (HaltsS now Whole) Turned (turned_halts now Whole) xs ys c)
 
-  pub looked_at : (n : ℕ) (P : PartSlot D → PartSlot D → Type 0) (xs : List (PartSlot D)) → HoldsAt n (λ s. P s s) xs → ChangesAt n P xs xs
-  looked_at n P [] h = absurd h
-  looked_at zero P (x ∷ xs) h = (h, refl)
-  looked_at (suc n) P (x ∷ xs) h = (refl, looked_at n P xs h)
+  pub either_way : (old : HostsParts D) (ys : List (PartSlot D)) (n : ℕ) → MayTurn n old.parts ys → (Q : HostsParts D → Type 0) → Q old
+      → (ChangesAt n Turned old.parts ys → Q (with_parts old ys)) → Q (with_parts old ys)
+  either_way old ys n (inl same) Q q f = subst (λ (zs : List (PartSlot D)). Q (with_parts old zs)) (sym same) q
+  either_way old ys n (inr changes) Q q f = f changes
 
-  -- ---- a call that was done before memory ran out
-
-  pub expiry_halts : (counts : Counts) (ends : Ends) (now shard : ℕ) (did : PartCall) (answer : ExpireAnswer) → did ≡ Expires answer → (a : Shards)
-      (call : Option ShardCall) (b : Shards) → DidPart counts ends now shard did a call b
-      → ExpiresShard counts ends now shard (fault_of_expiry shard answer) a call b
-  expiry_halts counts ends now shard did answer is a call b d =
-      let e = subst (λ (q : PartCall). DidPart counts ends now shard q a call b) is d in (e.0, answer, e.1, e.2, refl)
-
-  pub visit_halts : (counts : Counts) (ends : Ends) (now shard : ℕ) (part : Part) (visit : Visit) → part ≡ PartVisit shard visit → (did : PartCall)
-      (answer : VisitAnswer) (unread : Bool) → did ≡ Visits visit answer unread → (a : Shards) (call : Option ShardCall) (b : Shards) → DidPart counts ends now shard did a call b
-      → Did counts ends now part (AnswerVisit answer) a call b
-  visit_halts counts ends now shard part visit is did answer unread did_is a call b d =
-      let e = subst (λ (q : PartCall). DidPart counts ends now shard q a call b) did_is d in (
-        CallPart shard e.0 (Visits visit answer unread),
-        e.1,
-        ap (λ (p : Part). Some (record { part = p; answer = AnswerVisit answer })) (sym is),
-        e.2,
-      )
-
-  pub produce_halts : (counts : Counts) (ends : Ends) (now shard : ℕ) (part : Part) (batch : List ℕ) → part ≡ Produce shard batch → (did : PartCall)
-      (produced : Produced) → did ≡ Produces batch produced → (a : Shards) (call : Option ShardCall) (b : Shards) → DidPart counts ends now shard did a call b
-      → Did counts ends now part (AnswerProduce produced) a call b
-  produce_halts counts ends now shard part batch is did produced did_is a call b d =
-      let e = subst (λ (q : PartCall). DidPart counts ends now shard q a call b) did_is d in (
-        CallPart shard e.0 (Produces batch produced),
-        e.1,
-        ap (λ (p : Part). Some (record { part = p; answer = AnswerProduce produced })) (sym is),
-        e.2,
-      )
-
-  pub delete_halts : (counts : Counts) (ends : Ends) (now shard : ℕ) (part : Part) (to : ℤ) → part ≡ PartDelete shard to → (did : PartCall)
-      (answer : DeleteAnswer) → did ≡ Deletes to answer → (a : Shards) (call : Option ShardCall) (b : Shards) → DidPart counts ends now shard did a call b
-      → Did counts ends now part (AnswerDelete answer) a call b
-  delete_halts counts ends now shard part to is did answer did_is a call b d =
-      let e = subst (λ (q : PartCall). DidPart counts ends now shard q a call b) did_is d in (
-        CallPart shard e.0 (Deletes to answer),
-        e.1,
-        ap (λ (p : Part). Some (record { part = p; answer = AnswerDelete answer })) (sym is),
-        e.2,
-      )
-
-  pub look_does : (counts : Counts) (ends : Ends) (now shard : ℕ) (part : Part) (group : List ℕ) → part ≡ Look shard group → (looked : Looked) → (a : Shards)
-      (call : Option ShardCall) (b : Shards) → DidPart counts ends now shard (Looks group looked) a call b
-      → Did counts ends now part (AnswerLook looked) a call b
-  look_does counts ends now shard part group is looked a call b d = (
-    CallPart shard d.0 (Looks group looked),
-    d.1,
-    ap (λ (p : Part). Some (record { part = p; answer = AnswerLook looked })) (sym is),
-    d.2,
-  )
+  -- ---- a heartbeat
 
   pub beat_does : (counts : Counts) (ends : Ends) (now : ℕ) (part : Part) (request : HeartbeatRequest) → part ≡ Heartbeat request → (reply : HeartbeatReply)
       → (a : Shards) (call : Option ShardCall) (b : Shards)

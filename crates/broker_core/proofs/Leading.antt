@@ -1,21 +1,17 @@
 -- Calls on shards, and what they lead to.
-use Rattle.std.proofs.lemmas.List.Elements.{All-from_recursion}
-use Rattle.std.specs.List.{AllByRecursion, AllZip, flat_map}
-use Rattle.std.specs.Prelude.{All, ◌||◌}
+use Rattle.std.specs.List.{AllZip, flat_map}
+use Rattle.std.specs.Prelude.{◌||◌}
 use Rattle.std.proofs.Common.{◌≡◌, ◌⊎◌, ◌↔◌, ◌≤◌, ◌+◌, [], ◌∷◌, arith, inl, inr, refl, sym, ap, ◌∙◌, subst, ℕ, List, Bool, true, false, cond, Some, None}
 use Rattle.std.specs.declared.option.Option.{Option}
 use Rattle.edge_io.specs.declared.name.DiskPlace.TheVariants.{Log, StateA, StateB}
 use Rattle.edge_io.specs.Causes.{Rose}
 use Rattle.edge_io.specs.Disk.{IsTold}
-use Rattle.share_model.specs.declared.run.Run.{Run}
-use Rattle.share_model.specs.Runs.{IsCanonical}
 use Rattle.share_model.specs.declared.fault.StoreFault.{StoreFault}
 use Rattle.share_model.specs.declared.fault.StoreFault.TheVariants.{Device, Full}
 use Rattle.share_model.specs.declared.foreign.ForeignOp.{ForeignOp}
 use Rattle.share_model.specs.declared.foreign.ForeignAnswer.{ForeignAnswer}
 use Rattle.share_members.specs.Groups.{Memberships}
 use Rattle.share_coord.specs.Parts.{StoreParts}
-use Rattle.state_records.specs.States.{AreStoredRuns, IsStoredRun}
 use Rattle.foreign_coord.specs.Once.{HasRisen}
 use Rattle.foreign_coord.specs.Shards.{ForeignShardState, Carries, StepsForeign}
 use Rattle.share_part.specs.Failures.{RunOnBoth}
@@ -24,7 +20,6 @@ use Rattle.broker_model.specs.Hosted.{Hosted, IsOneOf, first_of, foreign_store, 
 use Rattle.broker_model.specs.Shards.{Counts, HostedPart, MembersCall, Shards, ShardCall, StepsMembers, StepsShards, rose_on}
 use Rattle.broker_model.specs.Shards.ShardCall.{CallForeign, CallMembers}
 use Rattle.broker_model.specs.Disks.{Facts, IsUsed, OnCalled, facts_of}
-use Rattle.call_fold.specs.Parts.{IsTellable}
 use Rattle.call_fold.specs.declared.part.Part.TheVariants.{Foreign}
 use Rattle.call_fold.specs.declared.part.PartAnswer.{PartAnswer}
 use Rattle.call_fold.specs.declared.part.PartAnswer.TheVariants.{Foreign as AnswerForeign}
@@ -33,7 +28,8 @@ use Rattle.broker_core.specs.declared.slot.ForeignSlot.TheVariants as foreign
 use Rattle.broker_core.specs.declared.slot.PartState.{PartState}
 use Rattle.broker_core.specs.declared.slot.PartState.TheVariants as part
 use Rattle.broker_core.specs.declared.slot.PartSlot.{PartSlot}
-use Rattle.broker_core.specs.Carried.{HaltsForeign, IsCarried, LeadsForeign, GoesOn, OpenPart, holding}
+use Rattle.broker_core.specs.Carried.{HaltsForeign, IsCarried, LeadsForeign, GoesOn, OpenPart}
+use Rattle.broker_shards.specs.Hosts.{holding}
 use Rattle.broker_core.specs.Hosts.{AreApart, AreCarried, AreDistinct, BothGoOn, Did, DiskGoesOn, ForeignStill, GoesOnIf, GoOn, Halts, HostsParts, IsPartSlot, IsPartState, IsSlot, Leads, LeftDisks, LogsLater, NotIn, PartStill, PartsStill, StandStill, all_names, among, counts_in, disks_in, ends_in, ends_over, facts_at, facts_in, foreign_disks, foreign_end, foreign_facts, hosted_slot, hosted_slots, part_disk, slot_ends, slots_disks}
 use Rattle.broker_core.proofs.Opening.{carried_stands}
 use Rattle.broker_core.proofs.Places.{zip_same, zip_weaker, apart_from, distinct_front, among_past, among_zip, not_both, one_in_either}
@@ -41,17 +37,6 @@ use Rattle.broker_core.proofs.Reaching.{SlotLater, names_later, names_reach, rea
 use Rattle.broker_core.proofs.Reopens.{images_left}
 use Rattle.broker_core.proofs.Slots.{called_same, disk_names, end_names}
 use Rattle.edge_io.specs.Views.{DiskView}
-
--- runs that are stored can be told
-each_tellable : (runs : List Run) → IsCanonical runs → AllByRecursion IsStoredRun runs → AllByRecursion IsTellable runs
-each_tellable [] c s = tt
-each_tellable (run ∷ runs) c s = (
-  record { first = omega (arith, c.0, s.0.0); last = s.0.0; count = s.0.1 },
-  each_tellable runs c.2 s.1,
-)
-
-pub tellable : (runs : List Run) → AreStoredRuns runs → All IsTellable runs
-tellable runs stored = All-from_recursion IsTellable runs (each_tellable runs stored.0 stored.1)
 
 unless : (b : Bool) → (b ≡ true → ⊥) → b ≡ false
 unless true h = absurd (h refl)

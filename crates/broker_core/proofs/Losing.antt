@@ -33,7 +33,8 @@ use Rattle.broker_core.specs.declared.slot.ForeignSlot.TheVariants as foreign
 use Rattle.broker_core.specs.declared.slot.PartState.{PartState}
 use Rattle.broker_core.specs.declared.slot.PartState.TheVariants as part
 use Rattle.broker_core.specs.declared.slot.PartSlot.{PartSlot}
-use Rattle.broker_core.specs.Carried.{GoesOn, IsCarried, IsPartCarried, OpenPart, holding}
+use Rattle.broker_core.specs.Carried.{GoesOn, IsCarried, IsPartCarried, OpenPart}
+use Rattle.broker_shards.specs.Hosts.{holding}
 use Rattle.broker_core.specs.Restarts.{IsRestartedPart, IsRestartedShard, ReopensSlot, ShutsSlot, StopsAt}
 use Rattle.broker_core.specs.Foreign.{ReopensForeign, ShutsForeign}
 use Rattle.broker_core.specs.Hosts.{AreApart, AreCarried, AreDistinct, AreHeldParts, AreNamed, AreOpenParts, BothGoOn, BothRose, DiskGoesOn, ForeignStill, GoesOnIf, GoOn, HostsParts, IsHeld, IsHeldState, IsOpen, IsOpenState, IsPartSlot, IsPartState, IsSlot, LogsReach, NotIn, OneRose, PartRose, PartStandsAlone, RoseIf, StandStill, all_names, disks_in, ends_in, facts_at, facts_in, foreign_disks, foreign_end, foreign_facts, hosted_slot, hosted_slots, open_disk, part_disk, part_end, shut_disk, slot_disks, slot_ends, slots_disks}

@@ -19,7 +19,8 @@ use Rattle.broker_core.specs.declared.slot.ForeignSlot.TheVariants as foreign
 use Rattle.broker_core.specs.declared.slot.PartState.{PartState}
 use Rattle.broker_core.specs.declared.slot.PartState.TheVariants as part
 use Rattle.broker_core.specs.declared.slot.PartSlot.{PartSlot}
-use Rattle.broker_core.specs.Carried.{OpenPart, holding}
+use Rattle.broker_core.specs.Carried.{OpenPart}
+use Rattle.broker_shards.specs.Hosts.{holding}
 use Rattle.broker_core.specs.Hosts.{AreCarried, HostsParts, IsPartSlot, IsPartState, LeftDisks, LogsLater, LogsReach, ReachesTo, disk_in, disks_in, ends_in, foreign_disk, foreign_disks, foreign_end, hosted_slot, part_disk, part_end, slot_disks, slot_ends, slots_disks}
 use Rattle.broker_core.proofs.Flats.{zip_flat}
 use Rattle.broker_core.proofs.Places.{among_zip_where, differs}

@@ -22,7 +22,8 @@ use Rattle.share_part.specs.Shards.{Carries, PartShardState, shard_with}
 use Rattle.share_part.proofs.Leavings.{left_of}
 use Rattle.broker_core.specs.declared.fault.CoreOpen.{CoreOpen}
 use Rattle.broker_core.specs.declared.fault.CoreOpen.TheVariants as fault
-use Rattle.broker_core.specs.Carried.{GoesOn, IsPartCarried, OpenPart, holding}
+use Rattle.broker_core.specs.Carried.{GoesOn, IsPartCarried, OpenPart}
+use Rattle.broker_shards.specs.Hosts.{holding}
 use Rattle.broker_core.specs.Hosts.{PartStandsAlone}
 use Rattle.broker_core.specs.Restarts.{IsLost, IsOpenedPart, IsRestartedPart, PartImagesStandAs}
 use Rattle.broker_core.proofs.Opening.{AreAlike, one_fault_left, opened_disk, restarted_disk, stored_alike, told_of}

@@ -20,6 +20,10 @@ pub ok_weaker : {X Y : Type 0} (P R : X → Type 0) (result : Result X Y) → ((
 ok_weaker P R (Ok x) f p = f x p
 ok_weaker P R (Err y) f p = tt
 
+pub ok_gives : {X Y Q : Type 0} (P : X → Type 0) (result : Result X Y) → ((x : X) → P x → Q) → IfOk result P → OnOk result Q
+ok_gives P (Ok x) f p = f x p
+ok_gives P (Err y) f p = tt
+
 pub err_weaker : {X Y : Type 0} (P R : Y → Type 0) (result : Result X Y) → ((y : Y) → P y → R y) → IfErr result P → IfErr result R
 err_weaker P R (Ok x) f p = tt
 err_weaker P R (Err y) f p = f y p

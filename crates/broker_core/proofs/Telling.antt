@@ -60,7 +60,7 @@ release_told topics shard Release (Store fault) lt = (lt, tt)
 release_told topics shard (Fetch records bytes first) outcome lt = tt
 
 visit_told : (topics : List Topic) (shard : ℕ) (asked : Then) (answer : PartAnswer) → shard < partitions topics
-    → AllByRecursion (IsTold topics) (faults_of_visit shard asked answer)
+    → AllByRecursion (IsTold topics) (faults_of_visit (Some (shard, asked)) answer)
 visit_told topics shard asked (AnswerForeign answer) lt = tt
 visit_told topics shard asked (AnswerProduce produced) lt = tt
 visit_told topics shard asked (AnswerDelete answer) lt = tt

@@ -4,7 +4,6 @@
 use Rattle.std.specs.Prelude.{◌≡◌, ◌≤◌, ◌⊎◌, ℕ, List, None, false, is_some, if◌then◌else◌}
 use Rattle.std.specs.declared.option.Option.{Option}
 use Rattle.edge_io.specs.Disk.{IsTold}
-use Rattle.share_model.specs.Held.{Held}
 use Rattle.share_model.specs.declared.fault.StoreFault.{StoreFault}
 use Rattle.share_model.specs.declared.foreign.ForeignAnswer.{ForeignAnswer}
 use Rattle.share_model.specs.declared.foreign.ForeignOp.{ForeignOp}
@@ -22,6 +21,11 @@ use Rattle.broker_model.specs.Hosted.{state_a, same_name}
 use Rattle.broker_model.specs.Shards.{PartCall, reads_log}
 use Rattle.broker_model.specs.Shards.PartCall.{Visits, Produces, Looks, Expires, Deletes}
 use Rattle.broker_model.specs.Disks.{Disks, IsUsed, facts_of}
+use Rattle.broker_shards.specs.Acts.{CanBeTold, asked_by, told_by}
+use Rattle.broker_shards.specs.Acts.PartDeed.{Calls}
+use Rattle.broker_shards.specs.Hosts.{holding}
+use Rattle.broker_shards.specs.declared.part.PartAsk.{PartAsk}
+use Rattle.broker_shards.specs.declared.part.PartTold.{PartTold}
 use Rattle.edge_io.specs.Views.{DiskView}
 
 -- ---- one disk
@@ -90,9 +94,6 @@ pub record HaltsForeign {D : Type 0} (seen : D → DiskView)
 abbrev pub OpenPart : Type 0 → Type 0
 OpenPart D = PartParts D WindowParts
 
-abbrev pub holding : WindowParts → Held
-holding window = window.held
-
 -- A partition's shard of this configuration, on disks that tell their contents and have found memory at each call, stands for this one.
 pub record IsPartCarried {D : Type 0} (seen : D → DiskView)
     (conf : PartConfParts) (part : OpenPart D) (shard : PartShardState) : Type 0 where
@@ -137,6 +138,12 @@ Uses seen old new (Produces batch produced) = UsesLog seen old new
 Uses seen old new (Looks group looked) = new ≡ old
 Uses seen old new (Expires answer) = UsesStates seen old new
 Uses seen old new (Deletes to answer) = UsesLog seen old new
+
+-- this call of the machine was asked so and told so, in numbers that a reply can say
+pub record IsCall (asked : PartAsk) (told : PartTold) (did : PartCall) : Type 0 where
+  pub asks : asked ≡ asked_by (Calls did)
+  pub tells : told ≡ told_by (Calls did)
+  pub tellable : CanBeTold (Calls did)
 
 -- from the shard that it stood for, it stands for one now to which this call led
 pub record LeadsPart {D : Type 0} (seen : D → DiskView) (conf : PartConfParts) (now : ℕ) (did : PartCall)

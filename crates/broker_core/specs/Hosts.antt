@@ -40,7 +40,8 @@ use Rattle.broker_core.specs.declared.slot.PartState.{PartState}
 use Rattle.broker_core.specs.declared.slot.PartState.TheVariants as part
 use Rattle.broker_core.specs.declared.slot.PartSlot.{PartSlot}
 use Rattle.broker_core.specs.declared.hosts.Hosts.{Hosts}
-use Rattle.broker_core.specs.Carried.{AreFreshStates, GoesOn, HaltsPart, IsCarried, IsFresh, IsPartCarried, LeadsPart, OpenPart, PartGoesOn, facts_by, by_name, holding}
+use Rattle.broker_core.specs.Carried.{AreFreshStates, GoesOn, HaltsPart, IsCarried, IsFresh, IsPartCarried, LeadsPart, OpenPart, PartGoesOn, facts_by, by_name}
+use Rattle.broker_shards.specs.Hosts.{holding}
 use Rattle.edge_io.specs.Views.{DiskView}
 
 -- the shards of the hosted partitions, in the order of their numbers; the members of all groups; foreign state
@@ -348,6 +349,11 @@ abbrev pub Did : Counts → Ends → (now : ℕ) → Part → PartAnswer → Sha
 Did counts ends now part answer old call new = (did : ShardCall) × (call ≡ Some did) × (answered_by did ≡ Some (record { part = part; answer = answer }))
     × StepsShards counts ends now old did new
 
+-- the partition with this number does this call
+abbrev pub DidPart : Counts → Ends → (now shard : ℕ) → PartCall → Shards → Option ShardCall → Shards → Type 0
+DidPart counts ends now shard did old call new = (hosted : Hosted) × (call ≡ Some (CallPart shard hosted did))
+    × StepsShards counts ends now old (CallPart shard hosted did) new
+
 -- From these shards, they stand for those now that this relation leads to, by a call or none.
 pub record Leads {D : Type 0} (seen : D → DiskView) (old : HostsParts D) (shards : Shards)
     (new : HostsParts D) (Does : Shards → Option ShardCall → Shards → Type 0) : Type 0 where
@@ -390,22 +396,28 @@ IsThere count (PartVisit shard visit) = shard < count
 IsThere count (Look shard group) = Unit {0}
 IsThere count (Heartbeat request) = Unit {0}
 
--- the faults that are told of a part by its answer: that of a release that couldn't be stored
-abbrev pub faults_of_visit : ℕ → Then → PartAnswer → List Outcome
-faults_of_visit shard asked (AnswerForeign answer) = []
-faults_of_visit shard asked (AnswerProduce produced) = []
-faults_of_visit shard asked (AnswerDelete answer) = []
-faults_of_visit shard asked (AnswerVisit answer) = fault_of_release shard asked answer.then
-faults_of_visit shard asked (AnswerLook looked) = []
-faults_of_visit shard asked (AnswerHeartbeat reply) = []
+-- the visit that a part asks: its shard, and what follows its acknowledgements
+abbrev pub visit_of : Part → Option (ℕ × Then)
+visit_of (Foreign op) = None
+visit_of (Produce shard batch) = None
+visit_of (PartDelete shard to) = None
+visit_of (PartVisit shard visit) = Some (shard, visit.then)
+visit_of (Look shard group) = None
+visit_of (Heartbeat request) = None
 
+-- the faults that are told of a visit by its answer: that of a release that couldn't be stored
+abbrev pub faults_of_visit : Option (ℕ × Then) → PartAnswer → List Outcome
+faults_of_visit None answer = []
+faults_of_visit (Some visit) (AnswerForeign answer) = []
+faults_of_visit (Some visit) (AnswerProduce produced) = []
+faults_of_visit (Some visit) (AnswerDelete answer) = []
+faults_of_visit (Some visit) (AnswerVisit answer) = fault_of_release visit.0 visit.1 answer.then
+faults_of_visit (Some visit) (AnswerLook looked) = []
+faults_of_visit (Some visit) (AnswerHeartbeat reply) = []
+
+-- of a part, only where it is a visit
 abbrev pub faults_in : Part → PartAnswer → List Outcome
-faults_in (Foreign op) answer = []
-faults_in (Produce shard batch) answer = []
-faults_in (PartDelete shard to) answer = []
-faults_in (PartVisit shard visit) answer = faults_of_visit shard visit.then answer
-faults_in (Look shard group) answer = []
-faults_in (Heartbeat request) answer = []
+faults_in part answer = faults_of_visit (visit_of part) answer
 
 -- an expiry of a shard at this moment, by its answer; the outcomes are the fault, if it met one
 abbrev pub ExpiresShard : Counts → Ends → (now shard : ℕ) → List Outcome → Shards → Option ShardCall → Shards → Type 0

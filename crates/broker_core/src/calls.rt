@@ -1,201 +1,88 @@
-// Calls on the shard in one of the slots of hosted partitions, by its number.
-ghost use Rattle.std.specs.Prelude.{Bool, ◌≡◌, ◌⊎◌, ◌≤◌, ◌^◌, ℕ, IfOk, OnErr};
-ghost use Rattle.call_fold.specs.Parts.{HasTellableBase, HasTellableStart, IsTellableLook, IsTellableVisit};
-ghost use Rattle.call_fold.specs.declared.part.Produced.{Produced};
-ghost use Rattle.share_model.specs.declared.delete.DeleteAnswer.{DeleteAnswer};
-ghost use Rattle.share_model.specs.declared.visit.ExpireAnswer.{ExpireAnswer};
-ghost use Rattle.share_model.specs.declared.visit.VisitAnswer.{VisitAnswer};
-ghost use Rattle.broker_model.specs.Hosted.{ChangesAt, HoldsAt};
-ghost use Rattle.broker_model.specs.Shards.PartCall.{Visits, Produces, Looks, Expires, Deletes};
-ghost use Rattle.broker_core.specs.Hosts.{AreOpenParts, HaltsSlot, IsOpenState, LeadsSlot};
+// Acts of the shard in one of the slots of hosted partitions, by its number.
+ghost use Rattle.std.specs.Prelude.{◌≡◌, ◌≢◌, ◌⊎◌, ◌<◌, ◌≤◌, ◌^◌, IfOk, OnErr, OnOk, length};
+ghost use Rattle.broker_model.specs.Hosted.{ChangesAt};
+ghost use Rattle.broker_model.specs.Shards.{PartCall};
+ghost use Rattle.broker_shards.specs.Acts.{asked_by};
+ghost use Rattle.broker_shards.specs.Acts.PartDeed.{Calls};
+ghost use Rattle.broker_shards.specs.Histories.{IsToldOf};
+ghost use Rattle.broker_core.specs.Carried.{IsCall};
+ghost use Rattle.broker_core.specs.Hosts.{AreApart, AreOpen, AreOpenParts, DidPart, GoOn, HaltsBy, HaltsSlot, IsOpenState};
+ghost use Rattle.broker_core.specs.Hosts.{LeadsBy, LeadsSlot, StaysHosted, disks_in, parts_of};
 
-use crate::part::{delete, expire, look, produce, visit};
+use crate::hosts::Hosts;
+use crate::part::act;
 use crate::slot::{PartSlot, PartState};
-use call_fold::{Looked, Produced};
+use broker_shards::{PartAsk, PartTold};
 use edge_io::Disk;
-use share_model::{DeleteAnswer, ExpireAnswer, Name, NoMemory, Visit, VisitAnswer};
+use share_model::NoMemory;
 use std::alloc::Global;
 
-// ---- batches
-
-fn produce_in<D: Disk>(now: u64, batch: &[u8], slot: &mut PartSlot<D>) -> Result<Produced, NoMemory>
-    requires now { now ≤ 2 ^ 62 }
-    requires open { IsOpenState slot.old.state }
-    ensures ok { IfOk result (λ produced.
-        LeadsSlot D.seen now (Produces batch.now produced) slot.old slot.new) }
-    ensures stopped { OnErr result (HaltsSlot D.seen now
-        (λ did. (produced : Produced) × (did ≡ Produces batch.now produced)) slot.old slot.new) }
-    ensures fair { IfOk result HasTellableBase }
-{
-    match &mut slot.state {
-        PartState::Open(part) => produce(now, batch, part),
-        _ => unreachable!(),
-    }
-}
-
-/// A batch for the log of the shard with this number.
-pub fn produce_at<D: Disk>(
-    now: u64,
-    shard: u32,
-    batch: &[u8],
-    parts: &mut Vec<PartSlot<D>>,
-) -> Result<Produced, NoMemory>
-    requires now { now ≤ 2 ^ 62 }
-    requires open { AreOpenParts parts.old.items }
-    ensures ok { IfOk result (λ produced. ChangesAt shard
-        (LeadsSlot D.seen now (Produces batch.now produced)) parts.old.items parts.new.items) }
-    ensures stopped { OnErr result ((parts.new.items ≡ parts.old.items) ⊎ ChangesAt shard (HaltsSlot D.seen now
-        (λ did. (produced : Produced) × (did ≡ Produces batch.now produced))) parts.old.items parts.new.items) }
-    ensures fair { IfOk result HasTellableBase }
-{
-    // Each shard that is asked is there.
-    let Some(slot) = parts.get_mut(shard as usize) else {
-        return Err(NoMemory);
-    };
-    produce_in(now, batch, slot)
-}
-
-fn delete_in<D: Disk>(now: u64, to: i64, slot: &mut PartSlot<D>) -> Result<DeleteAnswer, NoMemory>
-    requires now { now ≤ 2 ^ 62 }
-    requires open { IsOpenState slot.old.state }
-    ensures ok { IfOk result (λ answer. LeadsSlot D.seen now (Deletes to answer) slot.old slot.new) }
-    ensures stopped { OnErr result (HaltsSlot D.seen now
-        (λ did. (answer : DeleteAnswer) × (did ≡ Deletes to answer)) slot.old slot.new) }
-    ensures fair { IfOk result HasTellableStart }
-{
-    match &mut slot.state {
-        PartState::Open(part) => delete(now, to, part),
-        _ => unreachable!(),
-    }
-}
-
-/// A deletion of records of the shard with this number.
-pub fn delete_at<D: Disk>(
-    now: u64,
-    shard: u32,
-    to: i64,
-    parts: &mut Vec<PartSlot<D>>,
-) -> Result<DeleteAnswer, NoMemory>
-    requires now { now ≤ 2 ^ 62 }
-    requires open { AreOpenParts parts.old.items }
-    ensures ok { IfOk result (λ answer. ChangesAt shard
-        (LeadsSlot D.seen now (Deletes to answer)) parts.old.items parts.new.items) }
-    ensures stopped { OnErr result ((parts.new.items ≡ parts.old.items) ⊎ ChangesAt shard (HaltsSlot D.seen now
-        (λ did. (answer : DeleteAnswer) × (did ≡ Deletes to answer))) parts.old.items parts.new.items) }
-    ensures fair { IfOk result HasTellableStart }
-{
-    // Each shard that is asked is there.
-    let Some(slot) = parts.get_mut(shard as usize) else {
-        return Err(NoMemory);
-    };
-    delete_in(now, to, slot)
-}
-
-// ---- visits
-
-fn visit_in<D: Disk>(
-    now: u64,
-    asked: &Visit,
-    slot: &mut PartSlot<D>,
-) -> Result<VisitAnswer, NoMemory>
-    requires now { now ≤ 2 ^ 62 }
-    requires open { IsOpenState slot.old.state }
-    ensures ok { IfOk result (λ answer. (unread : Bool) ×
-        LeadsSlot D.seen now (Visits asked.now answer unread) slot.old slot.new) }
-    ensures stopped { OnErr result (HaltsSlot D.seen now
-        (λ did. (answer : VisitAnswer) × (unread : Bool) × (did ≡ Visits asked.now answer unread)) slot.old slot.new) }
-    ensures fair { IfOk result IsTellableVisit }
-{
-    match &mut slot.state {
-        PartState::Open(part) => visit(now, asked, part),
-        _ => unreachable!(),
-    }
-}
-
-/// A visit to the shard with this number.
-pub fn visit_at<D: Disk>(
-    now: u64,
-    shard: u32,
-    asked: &Visit,
-    parts: &mut Vec<PartSlot<D>>,
-) -> Result<VisitAnswer, NoMemory>
-    requires now { now ≤ 2 ^ 62 }
-    requires open { AreOpenParts parts.old.items }
-    ensures ok { IfOk result (λ answer. (unread : Bool) × ChangesAt shard
-        (LeadsSlot D.seen now (Visits asked.now answer unread)) parts.old.items parts.new.items) }
-    ensures stopped { OnErr result ((parts.new.items ≡ parts.old.items) ⊎ ChangesAt shard (HaltsSlot D.seen now
-        (λ did. (answer : VisitAnswer) × (unread : Bool) × (did ≡ Visits asked.now answer unread))) parts.old.items parts.new.items) }
-    ensures fair { IfOk result IsTellableVisit }
-{
-    let Some(slot) = parts.get_mut(shard as usize) else {
-        return Err(NoMemory);
-    };
-    visit_in(now, asked, slot)
-}
-
-// ---- looks
-
-fn look_in<D: Disk>(alloc: Global, group: &Name, slot: &PartSlot<D>) -> Result<Looked, NoMemory>
-    requires open { IsOpenState slot.now.state }
-    ensures ok { IfOk result (λ looked. (now : ℕ) →
-        LeadsSlot D.seen now (Looks group.now looked) slot.now slot.now) }
-    ensures fair { IfOk result IsTellableLook }
-{
-    match &slot.state {
-        PartState::Open(part) => look(alloc, group, part),
-        _ => unreachable!(),
-    }
-}
-
-/// A look at what is stored of a group on the shard with this number.
-pub fn look_at<D: Disk>(
+fn act_in<D: Disk>(
     alloc: Global,
-    shard: u32,
-    group: &Name,
-    parts: &[PartSlot<D>],
-) -> Result<Looked, NoMemory>
-    requires open { AreOpenParts parts.now }
-    ensures ok { IfOk result (λ looked. (now : ℕ) → HoldsAt shard
-        (λ slot. LeadsSlot D.seen now (Looks group.now looked) slot slot) parts.now) }
-    ensures fair { IfOk result IsTellableLook }
-{
-    let Some(slot) = parts.get(shard as usize) else {
-        return Err(NoMemory);
-    };
-    look_in(alloc, group, slot)
-}
-
-// ---- expiries
-
-fn expire_in<D: Disk>(now: u64, slot: &mut PartSlot<D>) -> Result<ExpireAnswer, NoMemory>
+    now: u64,
+    ask: &PartAsk,
+    slot: &mut PartSlot<D>,
+) -> Result<PartTold, NoMemory>
     requires now { now ≤ 2 ^ 62 }
+    requires call { (group : _) → ask.now ≢ PartAsk.Offer group }
     requires open { IsOpenState slot.old.state }
-    ensures ok { IfOk result (λ answer.
-        LeadsSlot D.seen now (Expires answer) slot.old slot.new) }
+    ensures ok { IfOk result (λ told. (did : PartCall) × IsCall ask.now told did
+        × LeadsSlot D.seen now did slot.old slot.new) }
     ensures stopped { OnErr result (HaltsSlot D.seen now
-        (λ did. (answer : ExpireAnswer) × (did ≡ Expires answer)) slot.old slot.new) }
+        (λ did. ask.now ≡ asked_by (Calls did)) slot.old slot.new) }
 {
     match &mut slot.state {
-        PartState::Open(part) => expire(now, part),
+        PartState::Open(part) => act(alloc, now, ask, part),
         _ => unreachable!(),
     }
 }
 
-/// An expiry of the shard with this number.
-pub fn expire_at<D: Disk>(
+fn act_among<D: Disk>(
+    alloc: Global,
     now: u64,
     shard: u32,
+    ask: &PartAsk,
     parts: &mut Vec<PartSlot<D>>,
-) -> Result<ExpireAnswer, NoMemory>
+) -> Result<PartTold, NoMemory>
     requires now { now ≤ 2 ^ 62 }
+    requires call { (group : _) → ask.now ≢ PartAsk.Offer group }
     requires open { AreOpenParts parts.old.items }
-    ensures ok { IfOk result (λ answer. ChangesAt shard
-        (LeadsSlot D.seen now (Expires answer)) parts.old.items parts.new.items) }
+    ensures ok { IfOk result (λ told. (did : PartCall) × IsCall ask.now told did
+        × ChangesAt shard (LeadsSlot D.seen now did) parts.old.items parts.new.items) }
     ensures stopped { OnErr result ((parts.new.items ≡ parts.old.items) ⊎ ChangesAt shard (HaltsSlot D.seen now
-        (λ did. (answer : ExpireAnswer) × (did ≡ Expires answer))) parts.old.items parts.new.items) }
+        (λ did. ask.now ≡ asked_by (Calls did))) parts.old.items parts.new.items) }
 {
+    // Each shard that is asked is there.
     let Some(slot) = parts.get_mut(shard as usize) else {
         return Err(NoMemory);
     };
-    expire_in(now, slot)
+    act_in(alloc, now, ask, slot)
+}
+
+/// Does what is asked of the shard with this number, at this moment. Where a disk has found no memory, it answers want
+/// of memory.
+pub fn act_at<D: Disk>(
+    alloc: Global,
+    now: u64,
+    shard: u32,
+    ask: &PartAsk,
+    hosts: &mut Hosts<D>,
+) -> Result<PartTold, NoMemory>
+    requires now { now ≤ 2 ^ 62 }
+    requires call { (group : _) → ask.now ≢ PartAsk.Offer group }
+    requires open { AreOpen (parts_of hosts.old) }
+    requires apart { AreApart (parts_of hosts.old) }
+    ensures ok { IfOk result (λ told. (did : PartCall) × IsCall ask.now told did
+        × LeadsBy D.seen (parts_of hosts.old) (parts_of hosts.new)
+        (λ counts ends. DidPart counts ends now shard did)) }
+    ensures stopped { OnErr result (HaltsBy D.seen (parts_of hosts.old) (parts_of hosts.new)
+        (λ counts ends a call b. (did : PartCall) × (ask.now ≡ asked_by (Calls did))
+        × DidPart counts ends now shard did a call b)) }
+    ensures fits { IfOk result (IsToldOf ask.now) }
+    ensures there { OnOk result (shard < length hosts.old.parts.items) }
+    ensures disks { GoOn D.seen (disks_in (parts_of hosts.old)) (disks_in (parts_of hosts.new)) }
+    ensures open { AreOpen (parts_of hosts.new) }
+    ensures stays { StaysHosted (parts_of hosts.old) (parts_of hosts.new) }
+{
+    act_among(alloc, now, shard, ask, &mut hosts.parts)
 }

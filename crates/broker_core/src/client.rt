@@ -11,7 +11,7 @@ ghost use Rattle.broker_model.specs.Steps.{Does, DoesTurn, Serves, replies_to};
 ghost use Rattle.broker_core.specs.Hosts.{AreApart, AreOpen, GoOn, HaltsBy, LeadsBy, StaysHosted, disks_in, parts_of};
 
 use crate::hosts::{Hosts, act};
-use crate::told::{fault_in, told};
+use crate::told::{fault_of_visit, told, visit_of};
 use conn_core::{Conn, Next, Part};
 use edge_io::Disk;
 use session_script::Outcome;
@@ -46,27 +46,28 @@ fn ask<D: Disk>(
     conf: &Config,
     id: u32,
     now: u64,
-    part: &Part,
+    part: Part,
     conn: &mut Conn,
     hosts: &mut Hosts<D>,
 ) -> Result<Vec<Outcome>, NoMemory>
-    requires asked { Awaits (Next.Ask part.now) conn.old }
+    requires asked { Awaits (Next.Ask part) conn.old }
     requires now { now ≤ 2 ^ 62 }
     requires open { AreOpen (parts_of hosts.old) }
     requires apart { AreApart (parts_of hosts.old) }
     requires hosted { length hosts.old.parts.items ≡ partitions conf.now.topics }
     ensures ok { IfOk result (λ outcomes. LeadsBy D.seen (parts_of hosts.old) (parts_of hosts.new)
-        (λ counts ends a call b. Does counts ends id now (Next.Ask part.now) conn.old a b call outcomes.items conn.new)) }
+        (λ counts ends a call b. Does counts ends id now (Next.Ask part) conn.old a b call outcomes.items conn.new)) }
     ensures stopped { OnErr result (HaltsBy D.seen (parts_of hosts.old) (parts_of hosts.new)
         (λ counts ends a call b. (outcomes : List Outcome) × (after : ConnParts)
-        × Does counts ends id now (Next.Ask part.now) conn.old a b call outcomes after)) }
+        × Does counts ends id now (Next.Ask part) conn.old a b call outcomes after)) }
     ensures told { IfOk result (λ outcomes. All (IsTold conf.now.topics) outcomes.items) }
     ensures disks { GoOn D.seen (disks_in (parts_of hosts.old)) (disks_in (parts_of hosts.new)) }
     ensures open { AreOpen (parts_of hosts.new) }
     ensures stays { StaysHosted (parts_of hosts.old) (parts_of hosts.new) }
 {
+    let visit = visit_of(&part);
     let answer = act(alloc, now, part, hosts)?;
-    let mut outcomes = told(alloc, fault_in(part, &answer))?;
+    let mut outcomes = told(alloc, fault_of_visit(visit, &answer))?;
     conn.give(conf, answer)?;
     replies(id, conn, &mut outcomes)?;
     Ok(outcomes)
@@ -98,7 +99,7 @@ fn done<D: Disk>(
     ensures stays { StaysHosted (parts_of hosts.old) (parts_of hosts.new) }
 {
     match next {
-        Next::Ask(part) => ask(alloc, conf, id, now, &part, conn, hosts),
+        Next::Ask(part) => ask(alloc, conf, id, now, part, conn, hosts),
         Next::Ready => {
             let mut outcomes = Vec::new(alloc);
             replies(id, conn, &mut outcomes)?;

@@ -1,168 +1,56 @@
-// Calls, openings and restarts of the shard of a hosted partition on its three disks.
-ghost use Rattle.std.specs.Prelude.{Bool, ◌≡◌, ◌≢◌, ◌⊎◌, ◌≤◌, ◌<◌, ◌+◌, ◌^◌, List, ℕ, true, false, Some, Err, IfOk, IfErr, OnErr, MatchResult};
+// Acts, openings and restarts of the shard of a hosted partition on its three disks.
+ghost use Rattle.std.specs.Prelude.{◌≡◌, ◌≢◌, ◌⊎◌, ◌≤◌, ◌^◌, List, ℕ, true, false, Some, IfOk, IfErr, OnErr, MatchResult};
 ghost use Rattle.edge_io.specs.declared.fault.Armed.TheVariants.{Nothing};
 ghost use Rattle.edge_io.specs.declared.name.DiskPlace.{DiskPlace};
 ghost use Rattle.edge_io.specs.Causes.{Rose};
 ghost use Rattle.edge_io.specs.Disk.{IsTold};
 ghost use Rattle.edge_io.specs.Names.{IsTopicName, hosted_name};
-ghost use Rattle.share_model.specs.ForeignRules.{ShareStates, share_state_at};
+ghost use Rattle.share_model.specs.ForeignRules.{ShareStates};
 ghost use Rattle.part_log.specs.Starts.{Log};
-ghost use Rattle.share_model.specs.declared.delete.DeleteAnswer.{DeleteAnswer};
-ghost use Rattle.share_model.specs.declared.visit.ExpireAnswer.{ExpireAnswer};
-ghost use Rattle.share_model.specs.declared.visit.VisitAnswer.{VisitAnswer};
-ghost use Rattle.call_fold.specs.Parts.{HasTellableBase, HasTellableStart, IsTellableLook, IsTellableVisit};
-ghost use Rattle.call_fold.specs.declared.part.Produced.{Produced};
-ghost use Rattle.share_coord.specs.States.{states_of};
-ghost use Rattle.share_part.specs.Hosting.{ArePartText, key_of};
+ghost use Rattle.share_part.specs.Hosting.{ArePartText};
 ghost use Rattle.share_part.specs.Shards.{PartShardState};
-ghost use Rattle.broker_model.specs.Shards.{look_at, result_of};
-ghost use Rattle.broker_model.specs.Shards.PartCall.{Visits, Produces, Expires, Deletes};
+ghost use Rattle.broker_model.specs.Shards.{PartCall};
+ghost use Rattle.broker_shards.specs.Acts.{asked_by};
+ghost use Rattle.broker_shards.specs.Acts.PartDeed.{Calls};
 ghost use Rattle.broker_core.specs.Bays.{AreFed, IsOfDevice};
-ghost use Rattle.broker_core.specs.Carried.{GoesOn, HaltsPart, IsFresh, IsPartCarried, LeadsPart, PartGoesOn};
+ghost use Rattle.broker_core.specs.Carried.{GoesOn, HaltsPart, IsCall, IsFresh, IsPartCarried, LeadsPart, PartGoesOn};
 ghost use Rattle.broker_core.specs.Hosts.{PartStandsAlone};
 ghost use Rattle.broker_core.specs.Restarts.{IsOpenedPart, IsDamagedPart, IsRestartedPart, PartImagesStandAs, PartRunsOn};
 
 use crate::fault::{CoreOpen, lose};
 use crate::names::disk_name;
-use call_fold::{Looked, Produced};
+use broker_shards::{PartAsk, PartTold, act_on_part};
 use edge_io::Disk;
-use flex_fields::Items;
-use share_model::{
-    DeleteAnswer, ExpireAnswer, LogFault, Name, NoMemory, Placed, Visit, VisitAnswer,
-};
+use share_model::{Name, NoMemory};
 use share_part::{PartConf, PartFault, PartShard};
 use std::alloc::Global;
 use window_runs::WindowRuns;
 
-// ---- calls
+// ---- acts
 
-// What is told of a batch that was added or refused.
-fn told(added: Result<Placed, LogFault>) -> Result<Produced, NoMemory>
-    requires not_behind { (end : ℕ) → added ≢ Err (LogFault.Behind end) }
-    requires below { IfOk added (λ placed. (placed.base ≤ 2 ^ 62) × (placed.start ≤ 2 ^ 62)) }
-    ensures ok { IfOk result (λ produced. result_of produced ≡ added) }
-    ensures fair { IfOk result HasTellableBase }
-    ensures memory { OnErr result (added ≡ Err LogFault.NoMemory) }
-{
-    match added {
-        Ok(placed) => Ok(Produced::Base(placed)),
-        Err(LogFault::Batch(fault)) => Ok(Produced::Batch(fault)),
-        Err(LogFault::Store(fault)) => Ok(Produced::Store(fault)),
-        Err(LogFault::NoMemory) => Err(NoMemory),
-        Err(LogFault::Behind { .. }) => unreachable!(),
-    }
-}
-
-/// Adds a produced batch to the log of a partition. Where a disk has found no memory, it answers want of memory.
-pub fn produce<D: Disk>(
-    now: u64,
-    batch: &[u8],
-    part: &mut PartShard<D, WindowRuns>,
-) -> Result<Produced, NoMemory>
-    requires { now ≤ 2 ^ 62 }
-    ensures ok { IfOk result (λ produced. (s : PartShardState) → IsPartCarried D.seen part.old.conf part.old s →
-        LeadsPart D.seen part.old.conf now (Produces batch.now produced) part.old s part.new) }
-    ensures stopped { OnErr result ((s : PartShardState) → IsPartCarried D.seen part.old.conf part.old s →
-        HaltsPart D.seen part.old.conf now (λ did. (produced : Produced) × (did ≡ Produces batch.now produced))
-        part.old s part.new) }
-    ensures fair { IfOk result HasTellableBase }
-    ensures disks { PartGoesOn D.seen part.old part.new }
-    ensures conf { part.new.conf ≡ part.old.conf }
-{
-    let added = part.produce(now, batch);
-    if part.starved() {
-        return Err(NoMemory);
-    }
-    told(added)
-}
-
-/// Deletes records of a partition. Where a disk has found no memory, it answers want of memory.
-pub fn delete<D: Disk>(
-    now: u64,
-    to: i64,
-    part: &mut PartShard<D, WindowRuns>,
-) -> Result<DeleteAnswer, NoMemory>
-    requires { now ≤ 2 ^ 62 }
-    ensures ok { IfOk result (λ answer. (s : PartShardState) → IsPartCarried D.seen part.old.conf part.old s →
-        LeadsPart D.seen part.old.conf now (Deletes to answer) part.old s part.new) }
-    ensures stopped { OnErr result ((s : PartShardState) → IsPartCarried D.seen part.old.conf part.old s →
-        HaltsPart D.seen part.old.conf now (λ did. (answer : DeleteAnswer) × (did ≡ Deletes to answer))
-        part.old s part.new) }
-    ensures fair { IfOk result HasTellableStart }
-    ensures disks { PartGoesOn D.seen part.old part.new }
-    ensures conf { part.new.conf ≡ part.old.conf }
-{
-    let answer = part.delete(now, to);
-    if part.starved() {
-        return Err(NoMemory);
-    }
-    Ok(answer)
-}
-
-/// Does a visit to a partition. Where a disk has found no memory, it answers want of memory.
-pub fn visit<D: Disk>(
-    now: u64,
-    visit: &Visit,
-    part: &mut PartShard<D, WindowRuns>,
-) -> Result<VisitAnswer, NoMemory>
-    requires { now ≤ 2 ^ 62 }
-    ensures ok { IfOk result (λ answer. (unread : Bool) × ((s : PartShardState) → IsPartCarried D.seen part.old.conf part.old s →
-        LeadsPart D.seen part.old.conf now (Visits visit.now answer unread) part.old s part.new)) }
-    ensures stopped { OnErr result ((s : PartShardState) → IsPartCarried D.seen part.old.conf part.old s →
-        HaltsPart D.seen part.old.conf now (λ did. (answer : VisitAnswer) × (unread : Bool) × (did ≡ Visits visit.now answer unread))
-        part.old s part.new) }
-    ensures fair { IfOk result IsTellableVisit }
-    ensures disks { PartGoesOn D.seen part.old part.new }
-    ensures conf { part.new.conf ≡ part.old.conf }
-{
-    let answer = part.visit(now, visit)?;
-    if part.starved() {
-        return Err(NoMemory);
-    }
-    Ok(answer)
-}
-
-/// Releases what is locked no longer on a partition. Where a disk has found no memory, it answers want of memory.
-pub fn expire<D: Disk>(
-    now: u64,
-    part: &mut PartShard<D, WindowRuns>,
-) -> Result<ExpireAnswer, NoMemory>
-    requires { now ≤ 2 ^ 62 }
-    ensures ok { IfOk result (λ answer. (s : PartShardState) → IsPartCarried D.seen part.old.conf part.old s →
-        LeadsPart D.seen part.old.conf now (Expires answer) part.old s part.new) }
-    ensures stopped { OnErr result ((s : PartShardState) → IsPartCarried D.seen part.old.conf part.old s →
-        HaltsPart D.seen part.old.conf now (λ did. (answer : ExpireAnswer) × (did ≡ Expires answer))
-        part.old s part.new) }
-    ensures disks { PartGoesOn D.seen part.old part.new }
-    ensures conf { part.new.conf ≡ part.old.conf }
-{
-    let answer = part.expire(now)?;
-    if part.starved() {
-        return Err(NoMemory);
-    }
-    Ok(answer)
-}
-
-/// Looks at what is stored of a group on a partition.
-pub fn look<D: Disk>(
+/// Does what is asked of the shard of a partition, at this moment. Where a disk has found no memory, it answers want of
+/// memory.
+pub fn act<D: Disk>(
     alloc: Global,
-    group: &Name,
-    part: &PartShard<D, WindowRuns>,
-) -> Result<Looked, NoMemory>
-    ensures ok { IfOk result (λ looked. looked ≡ look_at (share_state_at (states_of part.now.states.entries) (key_of part.now.conf group.now))) }
-    ensures fair { IfOk result IsTellableLook }
+    now: u64,
+    ask: &PartAsk,
+    part: &mut PartShard<D, WindowRuns>,
+) -> Result<PartTold, NoMemory>
+    requires now { now ≤ 2 ^ 62 }
+    requires call { (group : _) → ask.now ≢ PartAsk.Offer group }
+    ensures ok { IfOk result (λ told. (did : PartCall) × IsCall ask.now told did
+        × ((s : PartShardState) → IsPartCarried D.seen part.old.conf part.old s →
+        LeadsPart D.seen part.old.conf now did part.old s part.new)) }
+    ensures stopped { OnErr result ((s : PartShardState) → IsPartCarried D.seen part.old.conf part.old s →
+        HaltsPart D.seen part.old.conf now (λ did. ask.now ≡ asked_by (Calls did)) part.old s part.new) }
+    ensures disks { PartGoesOn D.seen part.old part.new }
+    ensures conf { part.new.conf ≡ part.old.conf }
 {
-    let Some(view) = part.look_state(group) else {
-        return Ok(Looked::Absent);
-    };
-    view.known();
-    let runs = view.runs.list().to_vec(alloc)?;
-    Ok(Looked::There {
-        state_epoch: view.state_epoch,
-        leader_epoch: view.leader_epoch,
-        start: view.start,
-        runs: Items::new(runs),
-    })
+    let told = act_on_part(alloc, now, ask, part)?;
+    if part.starved() {
+        return Err(NoMemory);
+    }
+    Ok(told)
 }
 
 // ---- openings

@@ -1,24 +1,54 @@
 // Locks and memberships that end by the clock.
-ghost use Rattle.std.specs.Prelude.{◌≡◌, ◌≤◌, ◌<◌, ◌^◌, ℕ, List, Some, IfOk, OnErr, All, length};
+ghost use Rattle.std.specs.Prelude.{◌≡◌, ◌≤◌, ◌<◌, ◌^◌, ℕ, List, Some, IfOk, OnErr, OnOk, All, length};
 ghost use Rattle.session_script.specs.declared.event.Outcome.{Outcome};
 ghost use Rattle.session_script.specs.Output.{IsTold};
+ghost use Rattle.share_model.specs.declared.visit.ExpireAnswer.{ExpireAnswer};
 ghost use Rattle.topic_conf.specs.declared.topic.Topic.{Topic};
 ghost use Rattle.topic_conf.specs.Topics.{partitions, shard_named};
 ghost use Rattle.conn_core.specs.Conns.{ConnParts};
 ghost use Rattle.broker_model.specs.Shards.{StepsShards};
 ghost use Rattle.broker_model.specs.Shards.ShardCall.{CallMembers};
 ghost use Rattle.broker_model.specs.Shards.MembersCall.{Ticks};
+ghost use Rattle.broker_model.specs.Shards.PartCall.{Expires};
 ghost use Rattle.broker_model.specs.Steps.{ExpiresAt};
-ghost use Rattle.broker_core.specs.Hosts.{AreApart, AreOpen, ExpiresShard, GoOn, HaltsBy, LeadsBy, StaysHosted, disks_in, parts_of};
+ghost use Rattle.broker_core.specs.Hosts.{AreApart, AreOpen, DidPart, ExpiresShard, GoOn, HaltsBy, LeadsBy, StaysHosted, disks_in, parts_of};
 
-use crate::calls::expire_at;
+use crate::calls::act_at;
 use crate::hosts::Hosts;
 use crate::told::{fault_of_expiry, told};
+use broker_shards::{PartAsk, PartTold};
 use edge_io::Disk;
 use session_script::Outcome;
-use share_model::{Name, NoMemory};
+use share_model::{ExpireAnswer, Name, NoMemory};
 use std::alloc::Global;
 use topic_conf::Config;
+
+// An expiry of the shard with this number.
+fn expire_at<D: Disk>(
+    alloc: Global,
+    now: u64,
+    shard: u32,
+    hosts: &mut Hosts<D>,
+) -> Result<ExpireAnswer, NoMemory>
+    requires now { now ≤ 2 ^ 62 }
+    requires open { AreOpen (parts_of hosts.old) }
+    requires apart { AreApart (parts_of hosts.old) }
+    ensures ok { IfOk result (λ answer. LeadsBy D.seen (parts_of hosts.old) (parts_of hosts.new)
+        (λ counts ends. DidPart counts ends now shard (Expires answer))) }
+    ensures stopped { OnErr result (HaltsBy D.seen (parts_of hosts.old) (parts_of hosts.new)
+        (λ counts ends a call b. (answer : ExpireAnswer) × DidPart counts ends now shard (Expires answer) a call b)) }
+    ensures there { OnOk result (shard < length hosts.old.parts.items) }
+    ensures disks { GoOn D.seen (disks_in (parts_of hosts.old)) (disks_in (parts_of hosts.new)) }
+    ensures open { AreOpen (parts_of hosts.new) }
+    ensures stays { StaysHosted (parts_of hosts.old) (parts_of hosts.new) }
+{
+    let ask = PartAsk::Expire;
+    let done = act_at(alloc, now, shard, &ask, hosts)?;
+    let PartTold::Expire(answer) = done else {
+        unreachable!()
+    };
+    Ok(answer)
+}
 
 // The locks of the partition with this shard that have ended are released.
 fn expire_shard<D: Disk>(
@@ -41,7 +71,7 @@ fn expire_shard<D: Disk>(
     ensures open { AreOpen (parts_of hosts.new) }
     ensures stays { StaysHosted (parts_of hosts.old) (parts_of hosts.new) }
 {
-    let answer = expire_at(now, shard, &mut hosts.parts)?;
+    let answer = expire_at(alloc, now, shard, hosts)?;
     told(alloc, fault_of_expiry(shard, &answer))
 }
 

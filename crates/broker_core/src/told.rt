@@ -2,7 +2,7 @@
 ghost use Rattle.std.specs.Prelude.{◌≡◌, IfOk};
 ghost use Rattle.std.specs.Option.{option_to_list};
 ghost use Rattle.broker_model.specs.Shards.{fault_of_expiry, fault_of_release};
-ghost use Rattle.broker_core.specs.Hosts.{faults_in, faults_of_visit};
+ghost use Rattle.broker_core.specs.Hosts.{faults_of_visit, visit_of};
 
 use conn_core::{Part, PartAnswer};
 use session_script::Outcome;
@@ -31,21 +31,25 @@ fn fault_of_release(shard: u32, then: Then, outcome: ThenOutcome) -> Option<Outc
     }
 }
 
-fn fault_of_visit(shard: u32, then: Then, answer: &PartAnswer) -> Option<Outcome>
-    ensures { option_to_list result ≡ faults_of_visit shard «then» answer.now }
+/// The visit that a part asks: its shard, and what follows its acknowledgements.
+pub fn visit_of(part: &Part) -> Option<(u32, Then)>
+    ensures { result ≡ visit_of part.now }
 {
-    match answer {
-        PartAnswer::Visit(answer) => fault_of_release(shard, then, answer.then),
+    match part {
+        Part::Visit { shard, visit } => Some((*shard, visit.then)),
         _ => None,
     }
 }
 
-/// The fault of a part by its answer, if one is told.
-pub fn fault_in(part: &Part, answer: &PartAnswer) -> Option<Outcome>
-    ensures { option_to_list result ≡ faults_in part.now answer.now }
+/// The fault of a part by its answer, if one is told: that of a visit.
+pub fn fault_of_visit(visit: Option<(u32, Then)>, answer: &PartAnswer) -> Option<Outcome>
+    ensures { option_to_list result ≡ faults_of_visit visit answer.now }
 {
-    match part {
-        Part::Visit { shard, visit } => fault_of_visit(*shard, visit.then, answer),
+    let Some((shard, then)) = visit else {
+        return None;
+    };
+    match answer {
+        PartAnswer::Visit(answer) => fault_of_release(shard, then, answer.then),
         _ => None,
     }
 }

@@ -92,6 +92,12 @@ module _ {D W : Type 0} (seen : D → DiskView) (holding : W → Held)
       states = λ due. new_states old.states new.states (ap (λ (p : PartParts D W). p.states) (once.nothing_due due).1);
     }
 
+    pub offer_found : (group : List ℕ) → new ≡ old → FoundWithin seen holding now (asks.Offer group) old new
+    offer_found group same = record {
+      log = new_log old.log new.log (ap (λ (p : PartParts D W). p.log) same);
+      states = new_states old.states new.states (ap (λ (p : PartParts D W). p.states) same);
+    }
+
     pub look_found : (group : List ℕ) → new ≡ old → FoundWithin seen holding now (asks.Look group) old new
     look_found group same = record {
       log = new_log old.log new.log (ap (λ (p : PartParts D W). p.log) same);

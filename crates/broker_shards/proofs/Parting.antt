@@ -1,5 +1,5 @@
 -- Calls on a partition as acts.
-use Rattle.std.proofs.Common.{◌≡◌, ◌≢◌, ◌≤◌, arith, refl, sym, ap, ◌∙◌, subst, ℕ, ℤ, List, Bool, true, Result, Err}
+use Rattle.std.proofs.Common.{◌≡◌, ◌≢◌, ◌≤◌, arith, refl, sym, ap, ◌∙◌, subst, ℕ, ℤ, List, Bool, true, false, Result, Err}
 use Rattle.std.specs.List.{AllByRecursion}
 use Rattle.edge_io.specs.Armed.{RunsOn}
 use Rattle.edge_io.specs.Disk.{IsTold}
@@ -14,7 +14,10 @@ use Rattle.share_model.specs.declared.delete.Placed.{Placed}
 use Rattle.share_model.specs.declared.fault.LogFault.{LogFault}
 use Rattle.share_model.specs.declared.fault.LogFault.TheVariants.{Store, NoMemory}
 use Rattle.share_model.specs.declared.fault.StoreFault.TheVariants.{Device}
+use Rattle.share_model.specs.declared.offer.Offer.{Offer}
 use Rattle.share_model.specs.declared.visit.ExpireAnswer.{ExpireAnswer}
+use Rattle.share_model.specs.declared.visit.Then.{Then}
+use Rattle.share_model.specs.declared.visit.Then.TheVariants.{Nothing, Release, Fetch}
 use Rattle.share_model.specs.declared.visit.Visit.{Visit}
 use Rattle.share_model.specs.declared.visit.VisitAnswer.{VisitAnswer}
 use Rattle.gate_journal.specs.declared.writer.Writer.{Writer}
@@ -27,21 +30,22 @@ use Rattle.share_coord.specs.Holding.{Holds}
 use Rattle.share_coord.specs.States.{states_of}
 use Rattle.share_part.specs.Deleting.{Deleted, IsTellableDelete}
 use Rattle.share_part.specs.Failures.{RunOnBoth}
+use Rattle.share_part.specs.Following.{IsFetch}
 use Rattle.share_part.specs.Hosting.{PartConfParts, AreHosted, key_of}
+use Rattle.share_part.specs.Offering.{offer_of}
 use Rattle.share_part.specs.Once.{Expired, Produced as ProducedSo, ReadsBatches, Visited}
-use Rattle.share_part.specs.Shards.{Carries, IsPendingHosted, IsUntouched, PartParts, PartShardState}
+use Rattle.share_part.specs.Shards.{Carries, IsPendingHosted, IsUntouched, PartParts, PartShardState, held_in}
 use Rattle.share_part.specs.Walks.{IsSmallGrant}
 use Rattle.call_fold.specs.Parts.{HasTellableBase, IsTellableLook}
 use Rattle.call_fold.specs.declared.part.Looked.{Looked}
 use Rattle.call_fold.specs.declared.part.Produced.{Produced}
-use Rattle.broker_model.specs.Shards.{look_at, result_of}
+use Rattle.broker_model.specs.Shards.{look_at, reads_log, result_of}
 use Rattle.broker_model.specs.Shards.PartCall.{Visits, Produces, Looks, Expires, Deletes}
 use Rattle.broker_model.proofs.Quiets.{steps_batch, steps_delete, steps_still, steps_visit}
-use Rattle.broker_shards.specs.Acts.{ActsOnPart, ActsPart, Answers, FindsNoMemory, GoesOnPart}
+use Rattle.broker_shards.specs.Acts.{ActsOnPart, Answers, FindsNoMemory, GoesOnPart, LeavesUnused, offer_at}
+use Rattle.broker_shards.specs.Acts.PartDeed.{Calls, Offers}
 use Rattle.broker_shards.specs.Crashes.{FoundWithin}
-use Rattle.broker_shards.specs.Hosts.{Host, Window, holding}
 use Rattle.broker_shards.specs.declared.part.PartAsk.{PartAsk}
-use Rattle.broker_shards.specs.declared.part.PartEvent.{PartEvent}
 use Rattle.broker_shards.specs.declared.part.PartTold.{PartTold}
 use Rattle.broker_shards.specs.declared.part.PartAsk.TheVariants as asks
 use Rattle.broker_shards.specs.declared.part.PartTold.TheVariants as tells
@@ -91,7 +95,7 @@ module _ {D W : Type 0} (seen : D → DiskView) (holding : W → Held) (old new 
       → Visited seen holding now visit old new unread answer
       → AllByRecursion IsSmallGrant answer.grants → Answers seen holding now (asks.Visit visit) (tells.Visit answer) old new
   visited now visit answer unread reads steps small = record {
-    did = Visits visit answer unread;
+    did = Calls (Visits visit answer unread);
     asks = refl;
     tells = refl;
     tellable = record { grants = grants_told answer.grants small };
@@ -101,7 +105,7 @@ module _ {D W : Type 0} (seen : D → DiskView) (holding : W → Held) (old new 
   pub expired : (now : ℕ) (answer : ExpireAnswer) → new.log ≡ old.log → Expired seen holding now old new answer
       → Answers seen holding now asks.Expire (tells.Expire answer) old new
   expired now answer log steps = record {
-    did = Expires answer;
+    did = Calls (Expires answer);
     asks = refl;
     tells = refl;
     tellable = tt;
@@ -117,7 +121,7 @@ module _ {D W : Type 0} (seen : D → DiskView) (holding : W → Held) (old new 
       → Quiet result → (result ≢ Err NoMemory → ProducedSo seen holding now batch old new result)
       → Answers seen holding now (asks.Produce batch) (tells.Produce produced) old new
   added now batch result produced is fair quiet steps = record {
-    did = Produces batch produced;
+    did = Calls (Produces batch produced);
     asks = refl;
     tells = refl;
     tellable = fair;
@@ -134,12 +138,23 @@ module _ {D W : Type 0} (seen : D → DiskView) (holding : W → Held) (old new 
   pub deleted : (now : ℕ) (to : ℤ) (answer : DeleteAnswer) → IsTellableDelete answer → QuietDelete answer
       → Deleted seen holding now to old new answer → Answers seen holding now (asks.Delete to) (tells.Delete answer) old new
   deleted now to answer below quiet steps = record {
-    did = Deletes to answer;
+    did = Calls (Deletes to answer);
     asks = refl;
     tells = refl;
     tellable = start_told answer below;
     steps = λ s k. let r = steps s k in (r.0, r.1, steps_delete seen old new old.conf now s r.0 to answer quiet r.2);
   }
+
+  -- ---- what isn't used
+
+  not_fetch : (asked : Then) → reads_log asked ≡ false → IsFetch asked → ⊥
+  not_fetch Nothing reads fetch = fetch
+  not_fetch Release reads fetch = fetch
+  not_fetch (Fetch records bytes first) reads fetch = let bad : true ≡ false = reads in cc
+
+  pub visit_unused : (visit : Visit) → ((IsFetch visit.then → ⊥) → new.log ≡ old.log) → OnlyReads seen old.log new.log
+      → LeavesUnused (asks.Visit visit) old new
+  visit_unused visit others reads = (λ no. others (not_fetch visit.then no), read_ends reads)
 
   -- ---- want of memory
 
@@ -162,13 +177,13 @@ module _ {D W : Type 0} (seen : D → DiskView) (holding : W → Held) (old new 
   pub call_refused : new ≡ old → FindsNoMemory seen holding old new
   call_refused same s k = subst (λ (p : PartParts D W). Carries seen holding p s) (sym same) k
 
--- ---- looks
+-- ---- looks and offers
 
 module _ {D W : Type 0} (seen : D → DiskView) (holding : W → Held) (part : PartParts D W) where
   pub look_told : (group : List ℕ) (looked : Looked) → looked ≡ look_at (share_state_at (states_of part.states.entries) (key_of part.conf group))
       → IsTellableLook looked → (now : ℕ) → Answers seen holding now (asks.Look group) (tells.Look looked) part part
   look_told group looked told fair now = record {
-    did = Looks group looked;
+    did = Calls (Looks group looked);
     asks = refl;
     tells = refl;
     tellable = fair;
@@ -177,6 +192,21 @@ module _ {D W : Type 0} (seen : D → DiskView) (holding : W → Held) (part : P
       k,
       steps_still seen part part part.conf now s s (Looks group looked) refl
           (told ∙ ap (λ states. look_at (share_state_at states (key_of part.conf group))) (sym k.states), refl),
+    );
+  }
+
+  pub offer_told : (group : List ℕ) (offer : Offer)
+      → offer ≡ offer_of part.log.batches (held_in holding part.windows group) (share_state_at (states_of part.states.entries) (key_of part.conf group))
+      → (now : ℕ) → Answers seen holding now (asks.Offer group) (tells.Offer offer) part part
+  offer_told group offer told now = record {
+    did = Offers group offer;
+    asks = refl;
+    tells = refl;
+    tellable = tt;
+    steps = λ s k. (
+      s,
+      k,
+      (told ∙ (λ i. offer_of (sym k.log.batches i) (sym (k.held group) i) (share_state_at (sym k.states i) (key_of part.conf group))), refl, refl),
     );
   }
 
@@ -191,18 +221,14 @@ module _ {D W : Type 0} (seen : D → DiskView) (holding : W → Held) (part : P
 
 -- ---- an act
 
-module _ {D : Type 0} (seen : D → DiskView) (old : Host D) (event : PartEvent) where
-  -- what is done at this moment of what is asked so is an act
-  pub acted : (now : ℕ) (asked : PartAsk) (result : Result PartTold want) (part : PartParts D Window) → now ≡ event.now → event.ask ≡ asked
-      → ActsOnPart seen holding now asked old.part result part → GoesOnPart seen holding old.part part
-      → FoundWithin seen holding now asked old.part part
-      → ActsPart seen old event result (record { topic = old.topic; conf = old.conf; part = part })
-  acted now asked result part at is acts goes within = record {
-    topic = refl;
-    conf = refl;
-    acts = subst (λ (a : PartAsk). ActsOnPart seen holding event.now a old.part result part) (sym is)
-        (subst (λ (n : ℕ). ActsOnPart seen holding n asked old.part result part) at acts);
-    goes_on = goes;
-    within = subst (λ (a : PartAsk). FoundWithin seen holding event.now a old.part part) (sym is)
-        (subst (λ (n : ℕ). FoundWithin seen holding n asked old.part part) at within);
-  }
+-- what is asked so, one way and another
+pub acted : {D W : Type 0} (seen : D → DiskView) (holding : W → Held) (now : ℕ) (asked ask : PartAsk) (result : Result PartTold want) (old new : PartParts D W)
+    → ask ≡ asked → ActsOnPart seen holding now asked old result new → ActsOnPart seen holding now ask old result new
+acted seen holding now asked ask result old new is acts = subst (λ (a : PartAsk). ActsOnPart seen holding now a old result new) (sym is) acts
+
+pub found : {D W : Type 0} (seen : D → DiskView) (holding : W → Held) (now : ℕ) (asked ask : PartAsk) (old new : PartParts D W)
+    → ask ≡ asked → FoundWithin seen holding now asked old new → FoundWithin seen holding now ask old new
+found seen holding now asked ask old new is within = subst (λ (a : PartAsk). FoundWithin seen holding now a old new) (sym is) within
+
+pub left : {D W : Type 0} (asked ask : PartAsk) (old new : PartParts D W) → ask ≡ asked → LeavesUnused asked old new → LeavesUnused ask old new
+left asked ask old new is unused = subst (λ (a : PartAsk). LeavesUnused a old new) (sym is) unused

@@ -1,8 +1,8 @@
 -- What an act on a shard behind a lock tells and leaves. A shard in memory and its disks carry a state of the machine's shard; where an
 -- act answers, they carry one then to which the machine's own step leads, and where it finds no memory, the one from before. This
 -- project's own; the steps are those of a recorded session.
--- For example a look tells what is stored of its group and leaves the shard as it was; a tick at 50000 that removes two members tells 2.
-use Rattle.std.specs.Prelude.{◌≡◌, ◌-◌, ◌^◌, ℕ, min, All, Option, Result, Ok, Err}
+-- For example an offer tells of its group the first record that a fetch would find, and leaves the shard as it was; a tick at 50000 that removes two members tells 2.
+use Rattle.std.specs.Prelude.{◌≡◌, ◌-◌, ◌^◌, ℕ, List, min, false, All, Option, Result, Ok, Err, ⊤}
 use Rattle.edge_io.specs.Armed.{RunsOn}
 use Rattle.edge_io.specs.Views.{DiskView}
 use Rattle.flex_fields.specs.declared.fault.NoMemory.{NoMemory}
@@ -10,6 +10,8 @@ use Rattle.share_model.specs.Held.{Held}
 use Rattle.share_model.specs.declared.fault.StoreFault.{StoreFault}
 use Rattle.share_model.specs.declared.foreign.ForeignAnswer.{ForeignAnswer}
 use Rattle.share_model.specs.declared.foreign.ForeignOp.{ForeignOp}
+use Rattle.share_model.specs.declared.offer.Offer.{Offer}
+use Rattle.share_model.specs.ForeignRules.{share_state_at}
 use Rattle.call_fold.specs.Parts.{HasTellableBase, HasTellableStart, IsTellable, IsTellableLook, IsTellableVisit}
 use Rattle.share_coord.specs.Parts.{StoreParts}
 use Rattle.edge_io.specs.Moments.{LeavesPairs}
@@ -17,9 +19,11 @@ use Rattle.foreign_coord.specs.Once.{HasRisen}
 use Rattle.foreign_coord.specs.Shards.{ForeignShardState, IsFound, StepsForeign, Carries as CarriesForeign}
 use Rattle.share_members.specs.Groups.{Memberships}
 use Rattle.share_members.specs.Expiry.{removed}
+use Rattle.share_part.specs.Hosting.{PartConfParts, key_of}
+use Rattle.share_part.specs.Offering.{offer_of}
 use Rattle.share_part.specs.Shards.{PartParts, PartShardState, Carries}
 use Rattle.broker_model.specs.Acting.{EndsGoOn, StepsOn}
-use Rattle.broker_model.specs.Shards.{PartCall, StepsMembers}
+use Rattle.broker_model.specs.Shards.{PartCall, StepsMembers, reads_log}
 use Rattle.broker_model.specs.Shards.PartCall.{Visits, Produces, Looks, Expires, Deletes}
 use Rattle.broker_model.specs.Shards.MembersCall.{Beats, Ticks}
 use Rattle.broker_shards.specs.declared.foreign.ForeignEvent.{ForeignEvent}
@@ -40,48 +44,75 @@ use Rattle.broker_shards.specs.Hosts.{Host, holding}
 
 -- ---- hosted partitions
 
--- what a call of the machine asks of a partition
-abbrev pub asked_by : PartCall → PartAsk
-asked_by (Visits visit answer unread) = asks.Visit visit
-asked_by (Produces batch produced) = asks.Produce batch
-asked_by (Looks group looked) = asks.Look group
-asked_by (Expires answer) = asks.Expire
-asked_by (Deletes to answer) = asks.Delete to
+-- What a partition does behind a lock: a call of the machine, or an offer, which no session knows: it tells a fetch that waits what it would find,
+-- and changes nothing.
+pub data PartDeed : Type 0 where
+  Calls : PartCall → PartDeed
+  Offers : (group : List ℕ) → Offer → PartDeed
 
--- and what it is told
-abbrev pub told_by : PartCall → PartTold
-told_by (Visits visit answer unread) = tells.Visit answer
-told_by (Produces batch produced) = tells.Produce produced
-told_by (Looks group looked) = tells.Look looked
-told_by (Expires answer) = tells.Expire answer
-told_by (Deletes to answer) = tells.Delete answer
+-- what was asked of a partition that does this
+abbrev pub asked_by : PartDeed → PartAsk
+asked_by (Calls (Visits visit answer unread)) = asks.Visit visit
+asked_by (Calls (Produces batch produced)) = asks.Produce batch
+asked_by (Calls (Looks group looked)) = asks.Look group
+asked_by (Calls (Expires answer)) = asks.Expire
+asked_by (Calls (Deletes to answer)) = asks.Delete to
+asked_by (Offers group offer) = asks.Offer group
+
+-- and what it tells
+abbrev pub told_by : PartDeed → PartTold
+told_by (Calls (Visits visit answer unread)) = tells.Visit answer
+told_by (Calls (Produces batch produced)) = tells.Produce produced
+told_by (Calls (Looks group looked)) = tells.Look looked
+told_by (Calls (Expires answer)) = tells.Expire answer
+told_by (Calls (Deletes to answer)) = tells.Delete answer
+told_by (Offers group offer) = tells.Offer offer
 
 -- a reply can say its numbers
-abbrev pub CanBeTold : PartCall → Type 0
-CanBeTold (Visits visit answer unread) = IsTellableVisit answer
-CanBeTold (Produces batch produced) = HasTellableBase produced
-CanBeTold (Looks group looked) = IsTellableLook looked
-CanBeTold (Expires answer) = Unit {0}
-CanBeTold (Deletes to answer) = HasTellableStart answer
+abbrev pub CanBeTold : PartDeed → Type 0
+CanBeTold (Calls (Visits visit answer unread)) = IsTellableVisit answer
+CanBeTold (Calls (Produces batch produced)) = HasTellableBase produced
+CanBeTold (Calls (Looks group looked)) = IsTellableLook looked
+CanBeTold (Calls (Expires answer)) = Unit {0}
+CanBeTold (Calls (Deletes to answer)) = HasTellableStart answer
+CanBeTold (Offers group offer) = Unit {0}
 
--- What was asked is a call of the machine, and so is what was told. From each state that was carried, one is carried now to which this call's
--- step leads.
+-- what a group is offered by a partition in this state
+abbrev pub offer_at : PartConfParts → PartShardState → List ℕ → Offer
+offer_at conf s group = offer_of s.log.batches (s.held group) (share_state_at s.states (key_of conf group))
+
+-- it leads from the one state to the other: by the machine's step, or by none
+abbrev pub StepsBy : {D W : Type 0} → (D → DiskView) → (old new : PartParts D W) → (now : ℕ) → PartShardState → PartDeed → PartShardState → Type 0
+StepsBy seen old new now s (Calls call) after = StepsOn seen old.conf old new now s call after
+StepsBy seen old new now s (Offers group offer) after = (offer ≡ offer_at old.conf s group) × (after ≡ s) × (new ≡ old)
+
+-- What was asked and what was told are of something that a partition does. From each state that was carried, one is carried now to which that
+-- leads.
 pub record Answers {D W : Type 0} (seen : D → DiskView) (holding : W → Held) (now : ℕ) (asked : PartAsk) (told : PartTold)
     (old new : PartParts D W) : Type 0 where
-  pub did : PartCall
+  pub did : PartDeed
   pub asks : asked ≡ asked_by did
   pub tells : told ≡ told_by did
   pub tellable : CanBeTold did
   pub steps : (s : PartShardState) → Carries seen holding old s → (after : PartShardState) × Carries seen holding new after
-      × StepsOn seen old.conf old new now s did after
+      × StepsBy seen old new now s did after
 
 -- no memory was found: what was carried is carried still
 abbrev pub FindsNoMemory : {D W : Type 0} → (D → DiskView) → (W → Held) → PartParts D W → PartParts D W → Type 0
 FindsNoMemory seen holding old new = (s : PartShardState) → Carries seen holding old s → Carries seen holding new s
 
+-- an offer needs none
+abbrev pub TakesMemory : PartAsk → Type 0
+TakesMemory (asks.Offer group) = ⊥
+TakesMemory (asks.Visit visit) = ⊤
+TakesMemory (asks.Produce batch) = ⊤
+TakesMemory (asks.Delete to) = ⊤
+TakesMemory (asks.Look group) = ⊤
+TakesMemory asks.Expire = ⊤
+
 abbrev pub ActsOnPart : {D W : Type 0} → (D → DiskView) → (W → Held) → (now : ℕ) → PartAsk → PartParts D W → Result PartTold NoMemory → PartParts D W → Type 0
 ActsOnPart seen holding now asked old (Ok told) new = Answers seen holding now asked told old new
-ActsOnPart seen holding now asked old (Err fault) new = FindsNoMemory seen holding old new
+ActsOnPart seen holding now asked old (Err fault) new = TakesMemory asked × FindsNoMemory seen holding old new
 
 -- What each act leaves: its configuration stays. No power is lost, no fault is armed, and no count of faults falls on its disks. The journal of
 -- the log never ends before where it did.
@@ -92,12 +123,24 @@ pub record GoesOnPart {D W : Type 0} (seen : D → DiskView) (holding : W → He
   pub second : RunsOn seen old.states.journal.second.disk new.states.journal.second.disk
   pub ends : (s : PartShardState) → Carries seen holding old s → EndsGoOn old new
 
+-- What an act doesn't use stays as it was: of a batch or a delete both journals of the states, of an expiry and of a visit that doesn't
+-- fetch the log, of a look and of an offer all. No visit moves the end of the log's journal.
+abbrev pub LeavesUnused : {D W : Type 0} → PartAsk → PartParts D W → PartParts D W → Type 0
+LeavesUnused (asks.Visit visit) old new = (reads_log visit.then ≡ false → new.log ≡ old.log)
+    × (new.log.journal.end ≡ old.log.journal.end)
+LeavesUnused (asks.Produce batch) old new = new.states.journal ≡ old.states.journal
+LeavesUnused (asks.Delete to) old new = new.states.journal ≡ old.states.journal
+LeavesUnused (asks.Look group) old new = new ≡ old
+LeavesUnused (asks.Offer group) old new = new ≡ old
+LeavesUnused asks.Expire old new = new.log ≡ old.log
+
 pub record ActsPart {D : Type 0} (seen : D → DiskView) (old : Host D) (event : PartEvent) (result : Result PartTold NoMemory) (new : Host D) : Type 0 where
   pub topic : new.topic ≡ old.topic
   pub conf : new.conf ≡ old.conf
   pub acts : ActsOnPart seen holding event.now event.ask old.part result new.part
   pub goes_on : GoesOnPart seen holding old.part new.part
   pub within : FoundWithin seen holding event.now event.ask old.part new.part
+  pub unused : LeavesUnused event.ask old.part new.part
 
 -- ---- members
 

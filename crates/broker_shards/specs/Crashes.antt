@@ -43,6 +43,7 @@ FoundOnLog seen holding (asks.Delete to) old new = (s : PartShardState) → Carr
     × ((IsToMark old.log.journal.end s to → ⊥) → FindsNothingNew seen old.log.journal.disk new.log.journal.disk)
 FoundOnLog seen holding (asks.Visit visit) old new = FindsNothingNew seen old.log.journal.disk new.log.journal.disk
 FoundOnLog seen holding (asks.Look group) old new = FindsNothingNew seen old.log.journal.disk new.log.journal.disk
+FoundOnLog seen holding (asks.Offer group) old new = FindsNothingNew seen old.log.journal.disk new.log.journal.disk
 FoundOnLog seen holding asks.Expire old new = FindsNothingNew seen old.log.journal.disk new.log.journal.disk
 
 -- on both disks of the states
@@ -57,6 +58,7 @@ FoundOnStates seen holding now (asks.Visit visit) old new = (s : PartShardState)
 FoundOnStates seen holding now (asks.Produce batch) old new = StatesFindNothingNew seen old.states new.states
 FoundOnStates seen holding now (asks.Delete to) old new = StatesFindNothingNew seen old.states new.states
 FoundOnStates seen holding now (asks.Look group) old new = StatesFindNothingNew seen old.states new.states
+FoundOnStates seen holding now (asks.Offer group) old new = StatesFindNothingNew seen old.states new.states
 FoundOnStates seen holding now asks.Expire old new =
     IsNothingDue holding old.windows (max old.clock now) → StatesFindNothingNew seen old.states new.states
 

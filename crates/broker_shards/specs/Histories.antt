@@ -4,6 +4,7 @@ use Rattle.std.specs.Prelude.{◌≡◌, ◌++◌, ◌∷◌, [], List, ℕ}
 use Rattle.edge_io.specs.Views.{DiskView}
 use Rattle.share_model.specs.Held.{Held}
 use Rattle.share_model.specs.declared.delete.DeleteAnswer.{DeleteAnswer}
+use Rattle.share_model.specs.declared.offer.Offer.{Offer}
 use Rattle.share_model.specs.declared.visit.ExpireAnswer.{ExpireAnswer}
 use Rattle.share_model.specs.declared.visit.VisitAnswer.{VisitAnswer}
 use Rattle.call_fold.specs.Parts.{HasTellableBase, HasTellableStart, IsTellableLook, IsTellableVisit}
@@ -30,6 +31,7 @@ IsToldOf (asks.Visit visit) told = (answer : VisitAnswer) × (told ≡ tells.Vis
 IsToldOf (asks.Produce batch) told = (produced : Produced) × (told ≡ tells.Produce produced) × HasTellableBase produced
 IsToldOf (asks.Delete to) told = (answer : DeleteAnswer) × (told ≡ tells.Delete answer) × HasTellableStart answer
 IsToldOf (asks.Look group) told = (looked : Looked) × (told ≡ tells.Look looked) × IsTellableLook looked
+IsToldOf (asks.Offer group) told = (offer : Offer) × (told ≡ tells.Offer offer)
 IsToldOf asks.Expire told = (answer : ExpireAnswer) × (told ≡ tells.Expire answer)
 
 module _ {D W : Type 0} where

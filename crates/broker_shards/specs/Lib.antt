@@ -2,3 +2,4 @@ pub mod Hosts
 pub mod Crashes
 pub mod Acts
 pub mod Histories
+pub mod Answering

@@ -11,5 +11,6 @@ mod told;
 pub use foreign::{ForeignEvent, ForeignHost};
 pub use law::{a_partition_tells_what_is_asked, each_history_ends_in_an_act};
 pub use members::{MembersAsk, MembersEvent, MembersHost, MembersTold};
-pub use part::{PartAsk, PartEvent, PartHost, PartTold, PartWindow};
+pub use part::{PartAsk, PartEvent, PartHost, PartTold, PartWindow, act_on_part};
 pub use share_model::Moment;
+pub use told::answer_of;

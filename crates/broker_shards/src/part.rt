@@ -1,6 +1,6 @@
 // The shard of a hosted partition behind a lock.
 ghost use Rattle.std.specs.Prelude.{◌≤◌, ◌^◌};
-ghost use Rattle.broker_shards.specs.Acts.{ActsOnPart, GoesOnPart};
+ghost use Rattle.broker_shards.specs.Acts.{ActsOnPart, GoesOnPart, LeavesUnused};
 ghost use Rattle.broker_shards.specs.Crashes.{FoundWithin};
 ghost use Rattle.broker_shards.specs.Hosts.{holding};
 
@@ -8,7 +8,9 @@ use crate::told::{looked, produced};
 use call_fold::{Looked, Produced};
 use edge_io::Disk;
 use shard_lock::Shard;
-use share_model::{Blob, DeleteAnswer, ExpireAnswer, Moment, Name, NoMemory, Visit, VisitAnswer};
+use share_model::{
+    Blob, DeleteAnswer, ExpireAnswer, Moment, Name, NoMemory, Offer, Visit, VisitAnswer,
+};
 use share_part::{PartConf, PartShard};
 use std::alloc::Global;
 use std::marker::Model;
@@ -28,6 +30,8 @@ pub enum PartAsk {
     Delete(i64),
     /// The stored state of a group.
     Look(Name),
+    /// What a fetch of a group would find now. Its moment is 0.
+    Offer(Name),
     /// All records whose acquisition lock has ended are to be given back.
     Expire,
 }
@@ -46,6 +50,7 @@ pub enum PartTold {
     Produce(Produced),
     Delete(DeleteAnswer),
     Look(Looked),
+    Offer(Offer),
     Expire(ExpireAnswer),
 }
 
@@ -75,6 +80,7 @@ fn visit<D: Disk>(
     ensures acts { ActsOnPart D.seen holding now (PartAsk.Visit visit.now) part.old result part.new }
     ensures goes_on { GoesOnPart D.seen holding part.old part.new }
     ensures within { FoundWithin D.seen holding now (PartAsk.Visit visit.now) part.old part.new }
+    ensures unused { LeavesUnused (PartAsk.Visit visit.now) part.old part.new }
 {
     match part.visit(now, visit) {
         Ok(answer) => return Ok(PartTold::Visit(answer)),
@@ -91,6 +97,7 @@ fn produce<D: Disk>(
     ensures acts { ActsOnPart D.seen holding now (PartAsk.Produce batch.now) part.old result part.new }
     ensures goes_on { GoesOnPart D.seen holding part.old part.new }
     ensures within { FoundWithin D.seen holding now (PartAsk.Produce batch.now) part.old part.new }
+    ensures unused { LeavesUnused (PartAsk.Produce batch.now) part.old part.new }
 {
     let added = part.produce(now, batch);
     match produced(added) {
@@ -108,6 +115,7 @@ fn delete<D: Disk>(
     ensures acts { ActsOnPart D.seen holding now (PartAsk.Delete to) part.old result part.new }
     ensures goes_on { GoesOnPart D.seen holding part.old part.new }
     ensures within { FoundWithin D.seen holding now (PartAsk.Delete to) part.old part.new }
+    ensures unused { LeavesUnused (PartAsk.Delete to) part.old part.new }
 {
     Ok(PartTold::Delete(part.delete(now, to)))
 }
@@ -126,15 +134,46 @@ fn look<D: Disk>(
     }
 }
 
+fn offer<D: Disk>(group: &Name, part: &PartShard<D, PartWindow>) -> Result<PartTold, NoMemory>
+    ensures acts { (now : _) → ActsOnPart D.seen holding now (PartAsk.Offer group.now) part.now result part.now }
+    ensures within { (now : _) → FoundWithin D.seen holding now (PartAsk.Offer group.now) part.now part.now }
+{
+    Ok(PartTold::Offer(part.offer(group)))
+}
+
 fn expire<D: Disk>(now: u64, part: &mut PartShard<D, PartWindow>) -> Result<PartTold, NoMemory>
     requires { now ≤ 2 ^ 62 }
     ensures acts { ActsOnPart D.seen holding now PartAsk.Expire part.old result part.new }
     ensures goes_on { GoesOnPart D.seen holding part.old part.new }
     ensures within { FoundWithin D.seen holding now PartAsk.Expire part.old part.new }
+    ensures unused { LeavesUnused PartAsk.Expire part.old part.new }
 {
     match part.expire(now) {
         Ok(answer) => return Ok(PartTold::Expire(answer)),
         Err(fault) => return Err(fault),
+    }
+}
+
+/// Does what is asked of the shard of a hosted partition, at this moment.
+pub fn act_on_part<D: Disk>(
+    alloc: Global,
+    now: u64,
+    ask: &PartAsk,
+    part: &mut PartShard<D, PartWindow>,
+) -> Result<PartTold, NoMemory>
+    requires { now ≤ 2 ^ 62 }
+    ensures acts { ActsOnPart D.seen holding now ask.now part.old result part.new }
+    ensures goes_on { GoesOnPart D.seen holding part.old part.new }
+    ensures within { FoundWithin D.seen holding now ask.now part.old part.new }
+    ensures unused { LeavesUnused ask.now part.old part.new }
+{
+    match ask {
+        PartAsk::Visit(asked) => visit(now, asked, part),
+        PartAsk::Produce(batch) => produce(now, batch.as_slice(), part),
+        PartAsk::Delete(to) => delete(now, *to, part),
+        PartAsk::Look(group) => look(alloc, group, &*part),
+        PartAsk::Offer(group) => offer(group, &*part),
+        PartAsk::Expire => expire(now, part),
     }
 }
 
@@ -148,13 +187,6 @@ impl<D: Disk> Shard for PartHost<D> {
     ghost acts = { ActsPart D.seen };
 
     fn act(&mut self, event: &PartEvent) -> Result<PartTold, NoMemory> {
-        let now = event.now.ms();
-        match &event.ask {
-            PartAsk::Visit(asked) => visit(now, asked, &mut self.part),
-            PartAsk::Produce(batch) => produce(now, batch.as_slice(), &mut self.part),
-            PartAsk::Delete(to) => delete(now, *to, &mut self.part),
-            PartAsk::Look(group) => look(self.alloc, group, &self.part),
-            PartAsk::Expire => expire(now, &mut self.part),
-        }
+        act_on_part(self.alloc, event.now.ms(), &event.ask, &mut self.part)
     }
 }

@@ -5,9 +5,10 @@ ghost use Rattle.share_model.specs.ForeignRules.{share_state_at};
 ghost use Rattle.share_coord.specs.States.{states_of};
 ghost use Rattle.share_part.specs.Hosting.{key_of};
 ghost use Rattle.broker_model.specs.Shards.{look_at, result_of};
+ghost use Rattle.broker_shards.specs.Answering.{answer_told};
 
-use crate::part::PartWindow;
-use call_fold::{Looked, Produced};
+use crate::part::{PartTold, PartWindow};
+use call_fold::{Looked, PartAnswer, Produced};
 use edge_io::Disk;
 use flex_fields::Items;
 use share_model::{LogFault, Name, NoMemory, Placed};
@@ -51,4 +52,18 @@ pub fn looked<D: Disk>(
         start: view.start,
         runs: Items::new(runs),
     })
+}
+
+/// What a partition told, as the answer to a part. No part asks for an offer or an expiry.
+pub fn answer_of(told: PartTold) -> Option<PartAnswer>
+    ensures { result ≡ answer_told told }
+{
+    match told {
+        PartTold::Visit(answer) => Some(PartAnswer::Visit(answer)),
+        PartTold::Produce(produced) => Some(PartAnswer::Produce(produced)),
+        PartTold::Delete(answer) => Some(PartAnswer::Delete(answer)),
+        PartTold::Look(looked) => Some(PartAnswer::Look(looked)),
+        PartTold::Offer(_) => None,
+        PartTold::Expire(_) => None,
+    }
 }

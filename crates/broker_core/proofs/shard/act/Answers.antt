@@ -1,8 +1,9 @@
 use Rattle.std.proofs.Common.{◌≡◌, false, subst, sym}
 use Rattle.foreign_coord.specs.Shards.{Carries as CarriesForeign}
 use Rattle.share_coord.specs.Parts.{StoreParts}
+use Rattle.broker_shards.proofs.Telling.{runs_told}
 use Rattle.broker_core.proofs.Stepping.{on_err}
-use Rattle.broker_core.proofs.Leading.{act_refused, act_halts, act_leads, fed_both, tellable}
+use Rattle.broker_core.proofs.Leading.{act_refused, act_halts, act_leads, fed_both}
 use Rattle.broker_core.proofs.shard.act.Goals as goal
 
 pub returns-in_err-answer-clause-stopped : goal.returns-in_err-answer-clause-stopped
@@ -23,4 +24,4 @@ returns-clause-ok g c = λ s k.
     (fed_both c.starved.result _ _ no c.starved.ensures))
 
 pub returns-clause-tellable : goal.returns-clause-tellable
-returns-clause-tellable g c = tellable c.in_ok-answer.answer.runs c.in_ok-answer.ensures.ranges
+returns-clause-tellable g c = runs_told c.in_ok-answer.answer.runs c.in_ok-answer.ensures.ranges

@@ -23,3 +23,6 @@ returns-clause-within g c = delete_found g.D.Disk.seen holding g.met.D.Disk.only
     c.args.to c.delete.result
     (subst (λ (to : ℤ). DeletesOnce g.D.Disk.seen holding c.args.now to c.args.part.now c.delete.new.self c.delete.result)
     (to_z-of_z w64 c.args.to c.ranges.to) c.delete.ensures.once)
+
+pub returns-clause-unused : goal.returns-clause-unused
+returns-clause-unused g c = same_journal c.delete.result c.args.part.now.states c.delete.new.self.states c.delete.ensures.once.states

@@ -12,7 +12,7 @@ returns-in-Ok-clause-goes_on g c = let once = c.in-Ok.ensures.once in
     (still_ends g.D.Disk.seen holding c.args.part.now c.expire.new.self once.log) c.in-Ok.ensures.runs
 
 pub returns-in-Err-clause-acts : goal.returns-in-Err-clause-acts
-returns-in-Err-clause-acts g c = call_refused g.D.Disk.seen holding c.args.part.now c.expire.new.self c.in-Err.ensures.once.memory
+returns-in-Err-clause-acts g c = (tt, call_refused g.D.Disk.seen holding c.args.part.now c.expire.new.self c.in-Err.ensures.once.memory)
 
 pub returns-in-Err-clause-goes_on : goal.returns-in-Err-clause-goes_on
 returns-in-Err-clause-goes_on g c = let once = c.in-Err.ensures.once in
@@ -24,3 +24,9 @@ returns-in-Ok-clause-within g c = expiry_found g.D.Disk.seen holding g.met.D.Dis
 
 pub returns-in-Err-clause-within : goal.returns-in-Err-clause-within
 returns-in-Err-clause-within g c = expiry_found g.D.Disk.seen holding g.met.D.Disk.only_now c.args.part.now c.expire.new.self c.args.now _ c.in-Err.ensures.once
+
+pub returns-in-Ok-clause-unused : goal.returns-in-Ok-clause-unused
+returns-in-Ok-clause-unused g c = c.in-Ok.ensures.once.log
+
+pub returns-in-Err-clause-unused : goal.returns-in-Err-clause-unused
+returns-in-Err-clause-unused g c = c.in-Err.ensures.once.log

@@ -14,4 +14,4 @@ pub returns-in-Err-clause-within : goal.returns-in-Err-clause-within
 returns-in-Err-clause-within g c = λ now. look_found g.D.Disk.seen holding g.met.D.Disk.only_now c.args.part.now c.args.part.now now c.args.group.now refl
 
 pub returns-in-Err-clause-acts : goal.returns-in-Err-clause-acts
-returns-in-Err-clause-acts g c = λ now s k. k
+returns-in-Err-clause-acts g c = λ now. (tt, λ s k. k)
