@@ -3,10 +3,10 @@ use Rattle.std.proofs.Common.{◌∙◌, inl, inr, ℕ, suc, List, [], ◌∷◌
 use Rattle.std.specs.List.{AllByRecursion, AllZip}
 use Rattle.edge_io.specs.Views.{DiskView}
 use Rattle.shard_lock.specs.Passes.{IsOf, LockParts, PassParts, StaysSame}
-use Rattle.broker_run.specs.Acting.{AreOf, StayOf}
+use Rattle.broker_locks.specs.Acting.{AreOf, StayOf}
 use Rattle.broker_run.specs.Homes.{IsHome, IsNamed}
-use Rattle.broker_run.specs.Rows.{IsAlone, IsUnused, StandsAlone}
-use Rattle.broker_run.specs.Shared.{PassesParts, SharedParts}
+use Rattle.broker_locks.specs.Rows.{IsAlone, IsUnused, StandsAlone}
+use Rattle.broker_locks.specs.Shared.{PassesParts, SharedParts}
 use Rattle.broker_run.specs.Working.{HasExpired, HasServed, HasWorked, IsTask}
 
 module _ {S E A : Type 0} where

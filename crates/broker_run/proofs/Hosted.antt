@@ -12,8 +12,8 @@ use Rattle.conn_core.proofs.HostedTurns.{asks_hosted_shards}
 use Rattle.broker_run.specs.declared.connection.Ended.{Ended}
 use Rattle.broker_run.specs.declared.connection.Ended.TheVariants.{Peer, Closed, Read, Write, NoMemory}
 use Rattle.broker_run.specs.declared.connection.Turned.TheVariants.{Closes}
-use Rattle.broker_run.specs.Shared.{SharedParts, PassesParts}
-use Rattle.broker_run.specs.Acting.{HostsAll}
+use Rattle.broker_locks.specs.Shared.{SharedParts, PassesParts}
+use Rattle.broker_locks.specs.Acting.{HostsAll}
 use Rattle.broker_run.specs.Moving.{acts_of}
 use Rattle.broker_run.specs.Serving.{GoesOn, HasEndCause, HasTurnCause, Quiet, Scene, Talks}
 

@@ -1,5 +1,5 @@
 -- A run of a connection behind another.
-use Rattle.std.proofs.Common.{◌≡◌, ◌≢◌, Some, Result, Ok, Err, IfOk, OnErr, ℕ, List, [], ◌∷◌, ◌++◌, true, false, refl, sym, ap, ◌∙◌, subst, append_assoc, append-nil, map, inl, inr}
+use Rattle.std.proofs.Common.{◌≡◌, ◌≢◌, Some, None, Result, Ok, Err, IfOk, OnOk, OnErr, ℕ, List, [], ◌∷◌, ◌++◌, true, false, refl, sym, ap, ◌∙◌, subst, append_assoc, append-nil, map, inl, inr}
 use Rattle.std.proofs.lemmas.Grind.{flat_map-append}
 use Rattle.std.proofs.lemmas.List.{map-append}
 use Rattle.std.proofs.lemmas.List.Elements.{All-append, All-cons, All-head, All-nil, All-tail}
@@ -14,19 +14,23 @@ use Rattle.edge_io.proofs.Telling.{tells_none, tells_then}
 use Rattle.share_model.specs.declared.close_cause.CloseCause.{CloseCause}
 use Rattle.topic_conf.specs.Configs.{ConfigParts}
 use Rattle.call_fold.specs.declared.part.Part.{Part}
+use Rattle.share_calls.specs.declared.wish.WaitWish.{WaitWish}
 use Rattle.conn_core.specs.declared.next.Next.{Next}
 use Rattle.conn_core.specs.declared.next.Next.TheVariants.{Idle, Ask, Closed as next_closed}
 use Rattle.conn_core.specs.Conns.{ConnParts, new_conn, conn_after_bytes, conn_after_end, conn_after_reply}
 use Rattle.conn_core.specs.Streams.{Act, conn_after, conn_after_all}
 use Rattle.conn_core.specs.Turning.{Waits, turn, awaited_part}
+use Rattle.conn_core.specs.Wishes.{conn_wish}
+use Rattle.broker_locks.specs.Waiting.{Glances, StopsWaiting, Waited, WaitsFor}
 use Rattle.broker_run.specs.declared.connection.Ended.{Ended}
 use Rattle.broker_run.specs.declared.connection.Ended.TheVariants.{Peer, Closed, Read, Write, NoMemory}
 use Rattle.broker_run.specs.declared.connection.Turned.{Turned}
 use Rattle.broker_run.specs.declared.connection.Turned.TheVariants.{Goes as Goes_on, Closes}
-use Rattle.broker_run.specs.Shared.{SharedParts, PassesParts}
-use Rattle.broker_run.specs.Moving.{CanAll, Done, IsIdle, IsOpen, IsOpenNext, IsQuiet, Move, acts_of, conn_after_moves, deed_of, done_by, moments_of, read_by, written_by}
+use Rattle.broker_locks.specs.Shared.{SharedParts, PassesParts}
+use Rattle.broker_run.specs.Moving.{CanAll, Done, HasWaited, IsIdle, IsOpen, IsOpenNext, IsQuiet, Move, acts_of, asked_of, conn_after_moves, deed_of, done_by, moments_of, read_by, written_by}
 use Rattle.broker_run.specs.Moving.Move.{asks, reads, does, sends, breaks, ends}
-use Rattle.broker_run.specs.Serving.{Asked, Scene, scene, DoesAll, Makes, Goes, GoesOn, Breaks, Quiet, Releases, Received, Replied, Fails, ClosesBy, TurnsTo, Talks, Serves, IsCut, IsServed, Stopped}
+use Rattle.broker_run.specs.Serving.{Asked, Halted, Interrupted, IsGone, IsGoneAt, Reached, Reads, Scene, scene, DoesAll, Makes, Goes, GoesOn, Breaks, Quiet, Releases}
+use Rattle.broker_run.specs.Serving.{Received, Replied, Fails, ClosesBy, TurnsTo, Talks, Serves, IsCut, IsServed, Stopped}
 
 -- ---- lists of moves
 
@@ -87,13 +91,36 @@ quiet_does (m ∷ ms) q =
     let more = quiet_does ms (All-tail IsQuiet m ms q) in
     (ap (λ (l : List ℕ). l ++ read_by ms) one.0 ∙ more.0, ap (λ (l : List ℕ). l ++ written_by ms) one.1 ∙ more.1)
 
+-- ---- what is read
+
+pub reads_append : (xs ys : List Move) (l m n : Option (List ℕ)) → Reads xs l m → Reads ys m n → Reads (xs ++ ys) l n
+reads_append [] ys l m n p q = subst (λ (x : Option (List ℕ)). Reads ys x n) p q
+reads_append (x ∷ xs) ys l m n p q = (p.0, p.1, p.2, reads_append xs ys p.0 m n p.3 q)
+
+sends_read : (rs : List (List ℕ)) (l : Option (List ℕ)) → Reads (map sends rs) l l
+sends_read [] l = refl
+sends_read (r ∷ rs) l = (l, tt, Consumes-nil l, sends_read rs l)
+
+quiet_one_read : (m : Move) (l : Option (List ℕ)) → IsQuiet m → IsGoneAt m l × Consumes l l (bytes_read m)
+quiet_one_read (asks next) l q = (tt, Consumes-nil l)
+quiet_one_read (reads piece) l q = absurd q
+quiet_one_read (does done) l q = (subst (λ (w : Option Waited). IsGone w l) (sym q) tt, Consumes-nil l)
+quiet_one_read (sends reply) l q = absurd q
+quiet_one_read (breaks front) l q = absurd q
+quiet_one_read ends l q = absurd q
+
+quiet_read : (ms : List Move) (l : Option (List ℕ)) → All IsQuiet ms → Reads ms l l
+quiet_read [] l q = refl
+quiet_read (m ∷ ms) l q =
+    let one = quiet_one_read m l (All-head IsQuiet m ms q) in (l, one.0, one.1, quiet_read ms l (All-tail IsQuiet m ms q))
+
 -- ---- runs
 
 module _ {D : Type 0} (conf : ConfigParts) (seen : D → DiskView) (shared : SharedParts D) where
   does_append : (xs ys : List Done) (a b c : PassesParts D) → DoesAll conf seen shared xs a b → DoesAll conf seen shared ys b c
       → DoesAll conf seen shared (xs ++ ys) a c
   does_append [] ys a b c p q = subst (λ (x : PassesParts D). DoesAll conf seen shared ys x c) p q
-  does_append (d ∷ ds) ys a b c p q = (p.0, p.1, does_append ds ys p.0 b c p.2 q)
+  does_append (d ∷ ds) ys a b c p q = (p.0, p.1, p.2, p.3, does_append ds ys p.1 b c p.4 q)
 
   pub makes_then : (xs ys : List Move) (a b c : ConnParts) (o p q : PassesParts D) (s t u : Option (List ℕ))
       → Makes conf seen shared xs a b o p s t → Makes conf seen shared ys b c p q t u → Makes conf seen shared (xs ++ ys) a c o q s u
@@ -103,7 +130,7 @@ module _ {D : Type 0} (conf : ConfigParts) (seen : D → DiskView) (shared : Sha
     passes = subst (λ (l : List Done). DoesAll conf seen shared l o q) (sym (flat_map-append parts_by xs ys))
         (does_append (done_by xs) (done_by ys) o p q g.passes k.passes);
     moments = subst (TellsMore s u)
-        (sym (ap moments_of (flat_map-append parts_by xs ys) ∙ map-append (λ (d : Done). d.now) (done_by xs) (done_by ys)))
+        (sym (ap moments_of (flat_map-append parts_by xs ys) ∙ flat_map-append (λ (d : Done). asked_of d.waited ++ d.now ∷ []) (done_by xs) (done_by ys)))
         (tells_then s t u (moments_of (done_by xs)) (moments_of (done_by ys)) g.moments k.moments);
   }
 
@@ -114,6 +141,7 @@ module _ {D : Type 0} (conf : ConfigParts) (seen : D → DiskView) (shared : Sha
         (Consumes-trans a.left b.left c.left (read_by xs) (read_by ys) p.fed q.fed);
     wrote = subst (Appends a.held c.held) (sym (flat_map-append bytes_written xs ys))
         (Appends-trans a.held b.held c.held (written_by xs) (written_by ys) p.wrote q.wrote);
+    gone = reads_append xs ys a.left b.left c.left p.gone q.gone;
   }
 
   pub makes_none : (c : ConnParts) (p : PassesParts D) (t : Option (List ℕ)) → Makes conf seen shared [] c c p p t t
@@ -123,7 +151,7 @@ module _ {D : Type 0} (conf : ConfigParts) (seen : D → DiskView) (shared : Sha
   goes_none a = record {
     moves = [];
     unclosed = All-nil IsOpen;
-    goes = record { makes = makes_none a.conn a.passes a.told; fed = Consumes-nil a.left; wrote = Appends-nil a.held };
+    goes = record { makes = makes_none a.conn a.passes a.told; fed = Consumes-nil a.left; gone = refl; wrote = Appends-nil a.held };
   }
 
   pub goes_on : (a b c : Scene D) → GoesOn conf seen shared a b → GoesOn conf seen shared b c → GoesOn conf seen shared a c
@@ -194,6 +222,7 @@ module _ {D : Type 0} (conf : ConfigParts) (seen : D → DiskView) (shared : Sha
   asks_one next c d p l h t tells is = record {
     makes = record { can = (sym tells, tt); conn = is; passes = refl; moments = tells_none t };
     fed = Consumes-nil l;
+    gone = (l, tt, Consumes-nil l, refl);
     wrote = Appends-nil h;
   }
 
@@ -219,6 +248,7 @@ module _ {D : Type 0} (conf : ConfigParts) (seen : D → DiskView) (shared : Sha
   reads_one c d p l m h t piece idle is q = record {
     makes = record { can = (idle, tt); conn = is; passes = refl; moments = tells_none t };
     fed = subst (Consumes l m) (sym (append-nil piece)) q;
+    gone = (m, tt, q, refl);
     wrote = Appends-nil h;
   }
 
@@ -227,6 +257,7 @@ module _ {D : Type 0} (conf : ConfigParts) (seen : D → DiskView) (shared : Sha
   ends_one c d p l m h t idle is q = record {
     makes = record { can = (idle, tt); conn = is; passes = refl; moments = tells_none t };
     fed = q;
+    gone = (m, tt, q, refl);
     wrote = Appends-nil h;
   }
 
@@ -268,16 +299,26 @@ module _ {D : Type 0} (conf : ConfigParts) (seen : D → DiskView) (shared : Sha
     goes = asks_one (next_closed cause) c d p l h t tells is;
   }
 
-  does_one : (part : Part) (c d : ConnParts) (p q : PassesParts D) (t u : Option (List ℕ)) → awaited_part c ≡ Some part → (a : Asked conf seen shared part c d p q t u)
-      → Makes conf seen shared (does (record { part = part; now = a.now; answer = a.answer }) ∷ []) c d p q t u
-  does_one part c d p q t u awaits a = record { can = (awaits, tt); conn = a.conn; passes = (q, a.does, refl); moments = a.moment }
+  abbrev done_so : (part : Part) (left : Option (List ℕ)) (c d : ConnParts) (p q : PassesParts D) (t u : Option (List ℕ))
+      → Reached conf seen shared part left c d p q t u → Done
+  done_so part left c d p q t u a = record { waited = a.waited; part = part; now = a.asked.now; answer = a.asked.answer }
+
+  does_one : (part : Part) (left : Option (List ℕ)) (c d : ConnParts) (p q : PassesParts D) (t u : Option (List ℕ)) → awaited_part c ≡ Some part
+      → (a : Reached conf seen shared part left c d p q t u) → Makes conf seen shared (does (done_so part left c d p q t u a) ∷ []) c d p q t u
+  does_one part left c d p q t u awaits a = record {
+    can = ((awaits, a.has), tt);
+    conn = a.asked.conn;
+    passes = (a.begun, q, a.waits, a.asked.does, refl);
+    moments = subst (TellsMore t u) (sym (append-nil (asked_of a.waited ++ a.asked.now ∷ [])))
+        (tells_then t a.until u (asked_of a.waited) (a.asked.now ∷ []) a.moments a.asked.moment);
+  }
 
   pub asked : (part : Part) (b c d : ConnParts) (p q : PassesParts D) (l h t u : Option (List ℕ)) → Ask part ≡ (turn conf b).next → c ≡ (turn conf b).conn
-      → awaited_part c ≡ Some part → Asked conf seen shared part c d p q t u → GoesOn conf seen shared (scene b p l h t) (scene d q l h u)
+      → awaited_part c ≡ Some part → Reached conf seen shared part l c d p q t u → GoesOn conf seen shared (scene b p l h t) (scene d q l h u)
   asked part b c d p q l h t u tells is awaits a =
-      behind (Ask part) (does (record { part = part; now = a.now; answer = a.answer })) (scene b p l h t) (scene c p l h t) (scene d q l h u) tt tt
+      behind (Ask part) (does (done_so part l c d p q t u a)) (scene b p l h t) (scene c p l h t) (scene d q l h u) tt tt
       (asks_one (Ask part) b c p l h t tells is)
-      (record { makes = does_one part c d p q t u awaits a; fed = Consumes-nil l; wrote = Appends-nil h })
+      (record { makes = does_one part l c d p q t u awaits a; fed = Consumes-nil l; gone = (l, a.gone, Consumes-nil l, refl); wrote = Appends-nil h })
 
   pub replied_goes : (c d : ConnParts) (p : PassesParts D) (l h k t : Option (List ℕ)) → Replied conf c d h k
       → GoesOn conf seen shared (scene c p l h t) (scene d p l k t)
@@ -292,6 +333,7 @@ module _ {D : Type 0} (conf : ConfigParts) (seen : D → DiskView) (shared : Sha
         moments = subst (TellsMore t t) (sym (ap moments_of (sends_none r.replies))) (tells_none t);
       };
       fed = subst (Consumes l l) (sym (sends_unread r.replies)) (Consumes-nil l);
+      gone = sends_read r.replies l;
       wrote = r.wrote;
     };
   }
@@ -302,6 +344,7 @@ module _ {D : Type 0} (conf : ConfigParts) (seen : D → DiskView) (shared : Sha
   goes_quiet xs ys a c d p q l h t u g quiet k = goes_then conf seen shared xs ys a (scene c p l h t) (scene d q l h u) g (record {
     makes = k;
     fed = subst (Consumes l l) (sym (quiet_does ys quiet).0) (Consumes-nil l);
+    gone = quiet_read ys l quiet;
     wrote = subst (Appends h h) (sym (quiet_does ys quiet).1) (Appends-nil h);
   })
 
@@ -324,10 +367,65 @@ module _ {D : Type 0} (conf : ConfigParts) (seen : D → DiskView) (shared : Sha
   quiet_turned c d p t is =
       quiet_one (asks (turn conf c).next) c d p p t t tt (record { can = (refl, tt); conn = is; passes = refl; moments = tells_none t })
 
-  pub quiet_asked : (part : Part) (c d : ConnParts) (p q : PassesParts D) (t u : Option (List ℕ)) → awaited_part c ≡ Some part → Asked conf seen shared part c d p q t u
-      → Quiet conf seen shared c d p q t u
-  quiet_asked part c d p q t u awaits a =
-      quiet_one (does (record { part = part; now = a.now; answer = a.answer })) c d p q t u tt (does_one part c d p q t u awaits a)
+  -- nothing is waited for where nothing is wished
+  abbrev pub unwished : (part : Part) (left : Option (List ℕ)) (c d : ConnParts) (p q : PassesParts D) (t u : Option (List ℕ)) → conn_wish c ≡ None
+      → Asked conf seen shared part c d p q t u → Reached conf seen shared part left c d p q t u
+  unwished part left c d p q t u none a = record {
+    waited = None;
+    has = subst (λ (w : Option WaitWish). HasWaited w None) (sym none) tt;
+    begun = p;
+    waits = refl;
+    until = t;
+    moments = tells_none t;
+    gone = tt;
+    asked = a;
+  }
+
+  pub quiet_asked : (part : Part) (c d : ConnParts) (p q : PassesParts D) (t u : Option (List ℕ)) → awaited_part c ≡ Some part → conn_wish c ≡ None
+      → Asked conf seen shared part c d p q t u → Quiet conf seen shared c d p q t u
+  quiet_asked part c d p q t u awaits none a =
+      let r = unwished part None c d p q t u none a in
+      quiet_one (does (done_so part None c d p q t u r)) c d p q t u refl (does_one part None c d p q t u awaits r)
+
+  pub halted_so : (part : Part) (c d : ConnParts) (p q : PassesParts D) (t u : Option (List ℕ)) → conn_wish c ≡ None
+      → Stopped conf seen shared part c d p q t u → Interrupted conf seen shared part c d p q t u
+  halted_so part c d p q t u none s = inr (record {
+    waited = None;
+    has = subst (λ (w : Option WaitWish). HasWaited w None) (sym none) tt;
+    begun = p;
+    waits = refl;
+    until = t;
+    moments = tells_none t;
+    stopped = s;
+  })
+
+  -- behind what was waited for
+  module _ (part : Part) (wish : WaitWish) (left : Option (List ℕ)) (c d : ConnParts) (p m q : PassesParts D) (t s u : Option (List ℕ))
+      (wished : conn_wish c ≡ Some wish) (w : WaitsFor seen shared wish left p m t s) where
+    has_so : HasWaited (conn_wish c) (Some w.waited)
+    has_so = subst (λ (x : Option WaitWish). HasWaited x (Some w.waited)) (sym wished) (w.wished, w.wait)
+
+    glanced_so : Glances seen shared w.waited.wish.group w.waited.glances p m
+    glanced_so = subst (λ (x : WaitWish). Glances seen shared x.group w.waited.glances p m) (sym w.wished) w.does.does
+
+    pub reached_so : Asked conf seen shared part c d m q s u → Reached conf seen shared part left c d p q t u
+    reached_so a = record {
+      waited = Some w.waited;
+      has = has_so;
+      begun = m;
+      waits = glanced_so;
+      until = s;
+      moments = w.does.asked;
+      gone = w.gone;
+      asked = a;
+    }
+
+    pub halted_behind : Stopped conf seen shared part c d m q s u → Interrupted conf seen shared part c d p q t u
+    halted_behind a = inr (record { waited = Some w.waited; has = has_so; begun = m; waits = glanced_so; until = s; moments = w.does.asked; stopped = a })
+
+  pub unwaited : (part : Part) (wish : WaitWish) (c : ConnParts) (p q : PassesParts D) (t u : Option (List ℕ)) → conn_wish c ≡ Some wish
+      → StopsWaiting seen shared wish p q t u → Interrupted conf seen shared part c c p q t u
+  unwaited part wish c p q t u wished stops = inl (record { wish = wish; wished = wished; stops = stops; conn = refl })
 
   -- ---- where memory runs out
 
@@ -347,7 +445,7 @@ module _ {D : Type 0} (conf : ConfigParts) (seen : D → DiskView) (shared : Sha
   }
 
   pub breaks_asked : (part : Part) (b c d : ConnParts) (p q : PassesParts D) (l h t u : Option (List ℕ)) → Ask part ≡ (turn conf b).next → c ≡ (turn conf b).conn
-      → awaited_part c ≡ Some part → Stopped conf seen shared part c d p q t u → Breaks conf seen shared (scene b p l h t) (scene d q l h u)
+      → awaited_part c ≡ Some part → Interrupted conf seen shared part c d p q t u → Breaks conf seen shared (scene b p l h t) (scene d q l h u)
   breaks_asked part b c d p q l h t u tells is awaits s = record {
     mid = scene c p l h t;
     goes = turned (Ask part) b c p l h t tt tells is;
@@ -359,6 +457,10 @@ module _ {D : Type 0} (conf : ConfigParts) (seen : D → DiskView) (shared : Sha
 pub if_ok_so : {X Y : Type 0} (P Q : X → Type 0) (result : Result X Y) → ((x : X) → P x → Q x) → IfOk result P → IfOk result Q
 if_ok_so P Q (Ok x) f p = f x p
 if_ok_so P Q (Err y) f p = tt
+
+pub ok_so : {X Y P Q : Type 0} (result : Result X Y) → (P → Q) → OnOk result P → OnOk result Q
+ok_so (Ok x) f p = f p
+ok_so (Err y) f p = tt
 
 pub err_so : {X Y P Q : Type 0} (result : Result X Y) → (P → Q) → OnErr result P → OnErr result Q
 err_so (Ok x) f p = tt
@@ -385,6 +487,7 @@ module _ {D : Type 0} (conf : ConfigParts) (seen : D → DiskView) (shared : Sha
         goes = record {
           makes = record { can = (f.can, tt); conn = end ∙ ap conn_after_end f.conn; passes = refl; moments = tells_none t };
           fed = Consumes-nil l;
+          gone = (l, tt, Consumes-nil l, refl);
           wrote = subst (Appends f.until k) (sym (append-nil f.front)) f.wrote;
         };
       }))

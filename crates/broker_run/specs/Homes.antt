@@ -5,9 +5,9 @@ use Rattle.std.specs.Prelude.{◌≡◌, ◌⊎◌, ℕ, Bool, true, List, Optio
 use Rattle.edge_io.specs.Causes.{Rose}
 use Rattle.edge_io.specs.Serving.{Gave}
 use Rattle.edge_io.specs.Views.{DiskView}
-use Rattle.broker_run.specs.Acting.{HostsAll}
-use Rattle.broker_run.specs.Rows.{IsAlone}
-use Rattle.broker_run.specs.Shared.{PassesParts, SharedParts}
+use Rattle.broker_locks.specs.Acting.{HostsAll}
+use Rattle.broker_locks.specs.Rows.{IsAlone}
+use Rattle.broker_locks.specs.Shared.{PassesParts, SharedParts}
 use Rattle.broker_run.specs.Working.{HasWorked}
 use Rattle.broker_run.specs.declared.jobs.LinksEnd.{LinksEnd}
 use Rattle.broker_run.specs.declared.jobs.LinksEnd.TheVariants.{Served, Listener, Refused, NoMemory}

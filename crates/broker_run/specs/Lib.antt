@@ -1,12 +1,5 @@
-pub mod Shared
-pub mod Rows
-pub mod Opening
-pub mod Histories
-pub mod Closing
-pub mod Acting
 pub mod Moving
 pub mod Serving
-pub mod Expiring
 pub mod Working
 pub mod Homes
 pub mod Server

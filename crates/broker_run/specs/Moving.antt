@@ -1,21 +1,26 @@
 -- The moves of a connection that is served (this project's own): one list, from which all that happens on its link, to its passes and on its clock
 -- is read off.
+-- A part may have a wait before it, which is of the part, as nothing else is done between.
 -- For example a Read of foreign state that comes in one piece has the moves asks Idle, reads, asks (Ask part), does, sends, asks Idle and ends: the
 -- piece was read, the bytes of one reply were written, and one part was done, at one moment.
-use Rattle.std.specs.Prelude.{◌≡◌, ◌++◌, ℕ, List, [], ◌∷◌, Some, ⊤, map}
+use Rattle.std.specs.Prelude.{◌≡◌, ◌++◌, ℕ, List, [], ◌∷◌, Option, Some, None, ⊤}
 use Rattle.std.specs.List.{flat_map}
 use Rattle.topic_conf.specs.Configs.{ConfigParts}
 use Rattle.call_fold.specs.declared.part.Part.{Part}
 use Rattle.call_fold.specs.declared.part.PartAnswer.{PartAnswer}
+use Rattle.share_calls.specs.declared.wish.WaitWish.{WaitWish}
 use Rattle.conn_core.specs.declared.next.Next.{Next}
 use Rattle.conn_core.specs.declared.next.Next.TheVariants.{Idle, Ask, Ready, Closed, Gone}
 use Rattle.conn_core.specs.Conns.{ConnParts}
 use Rattle.conn_core.specs.Streams.{Act, conn_after_all}
 use Rattle.conn_core.specs.Streams.Act.{feeds, asks as act_asks, gives, ends as act_ends, takes}
 use Rattle.conn_core.specs.Turning.{Waits, turn, awaited_part}
+use Rattle.conn_core.specs.Wishes.{conn_wish}
+use Rattle.broker_locks.specs.Waiting.{IsWait, Waited, asked_in}
 
--- a part that was done, when, and its answer
+-- a part that was done: the wait before it, if there was one, when it was done, and its answer
 pub record Done : Type 0 where
+  pub waited : Option Waited
   pub part : Part
   pub now : ℕ
   pub answer : PartAnswer
@@ -61,9 +66,14 @@ read_by moves = flat_map (λ move. (deed_of move).read) moves
 abbrev pub written_by : List Move → List ℕ
 written_by moves = flat_map (λ move. (deed_of move).written) moves
 
--- each part has a moment of its own
+-- what the clock answered in a wait
+abbrev pub asked_of : Option Waited → List ℕ
+asked_of None = []
+asked_of (Some waited) = asked_in waited.glances
+
+-- behind what its wait asked, each part has a moment of its own
 abbrev pub moments_of : List Done → List ℕ
-moments_of parts = map (λ part. part.now) parts
+moments_of parts = flat_map (λ part. asked_of part.waited ++ part.now ∷ []) parts
 
 -- the connection after the moves
 abbrev pub conn_after_moves : ConfigParts → List Move → ConnParts → ConnParts
@@ -74,16 +84,23 @@ pub record IsIdle (conn : ConnParts) : Type 0 where
   pub waits : Waits conn
   pub answered : conn.replies ≡ []
 
+-- It waits where its request wishes to, which it does before its first part alone.
+abbrev pub HasWaited : Option WaitWish → Option Waited → Type 0
+HasWaited None None = ⊤
+HasWaited None (Some waited) = ⊥
+HasWaited (Some wish) None = ⊥
+HasWaited (Some wish) (Some waited) = (waited.wish ≡ wish) × IsWait waited
+
 -- the finished reply that is next
 abbrev pub IsOldest : List ℕ → ConnParts → Type 0
 IsOldest reply conn = (others : List (List ℕ)) × (conn.replies ≡ reply ∷ others)
 
 -- Where a connection can make a move: what it tells is what it does next; its link is read only where it is idle; the part that it awaits is done,
--- and the reply that is next is written.
+-- behind the wait that it wishes for; and the reply that is next is written.
 abbrev pub Can : ConfigParts → Move → ConnParts → Type 0
 Can conf (asks next) conn = (turn conf conn).next ≡ next
 Can conf (reads piece) conn = IsIdle conn
-Can conf (does done) conn = awaited_part conn ≡ Some done.part
+Can conf (does done) conn = (awaited_part conn ≡ Some done.part) × HasWaited (conn_wish conn) done.waited
 Can conf (sends reply) conn = IsOldest reply conn
 Can conf (breaks front) conn = (rest : List ℕ) × IsOldest (front ++ rest) conn
 Can conf ends conn = IsIdle conn
@@ -109,11 +126,11 @@ IsOpen (sends reply) = ⊤
 IsOpen (breaks front) = ⊥
 IsOpen ends = ⊥
 
--- it is one of a connection that closes: nothing is read, and nothing written
+-- it is one of a connection that closes: nothing is read, nothing written, and nothing waited for
 abbrev pub IsQuiet : Move → Type 0
 IsQuiet (asks next) = ⊤
 IsQuiet (reads piece) = ⊥
-IsQuiet (does done) = ⊤
+IsQuiet (does done) = done.waited ≡ None
 IsQuiet (sends reply) = ⊥
 IsQuiet (breaks front) = ⊥
 IsQuiet ends = ⊥

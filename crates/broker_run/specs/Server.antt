@@ -8,9 +8,9 @@ use Rattle.edge_io.specs.Views.{BayView, DiskView}
 use Rattle.topic_conf.specs.Configs.{ConfigParts}
 use Rattle.broker_core.specs.Bays.{AreOut, TellsStill}
 use Rattle.broker_core.specs.declared.fault.CoreOpen.{CoreOpen}
-use Rattle.broker_run.specs.Closing.{Closes}
-use Rattle.broker_run.specs.Opening.{IsOpening}
-use Rattle.broker_run.specs.Shared.{PassesParts, SharedParts, first_shards}
+use Rattle.broker_locks.specs.Closing.{Closes}
+use Rattle.broker_locks.specs.Opening.{IsOpening}
+use Rattle.broker_locks.specs.Shared.{PassesParts, SharedParts, first_shards}
 use Rattle.broker_run.specs.declared.jobs.LinksEnd.{LinksEnd}
 use Rattle.broker_run.specs.declared.server.Served.{Served}
 use Rattle.broker_run.specs.declared.server.Served.TheVariants.{Refused, Ended}

@@ -1,7 +1,7 @@
 -- What serving a connection does: to the connection, to the passes through which it acts, to its link and to the clock. This project's own.
 -- For example a link that gives one Read of foreign state and ends has one part, done by one entry of the thread's pass of foreign state at the
 -- first moment of the clock; the bytes of its one reply were written, and the connection is gone.
-use Rattle.std.specs.Prelude.{◌≡◌, ◌⊎◌, ◌∷◌, ◌++◌, [], ℕ, List, Option, Bool, true, false, map, ⊤}
+use Rattle.std.specs.Prelude.{◌≡◌, ◌⊎◌, ◌∷◌, ◌++◌, [], ℕ, List, Option, Some, None, Bool, true, false, map, ⊤}
 use Rattle.std.specs.List.{All}
 use Rattle.std.specs.Io.KnownBytes.{Appends, Consumes, IsAtEnd}
 use Rattle.edge_io.specs.Causes.{Rose}
@@ -10,18 +10,22 @@ use Rattle.edge_io.specs.Serving.{TellsMore}
 use Rattle.topic_conf.specs.Configs.{ConfigParts}
 use Rattle.call_fold.specs.declared.part.Part.{Part}
 use Rattle.call_fold.specs.declared.part.PartAnswer.{PartAnswer}
+use Rattle.share_calls.specs.declared.wish.WaitWish.{WaitWish}
 use Rattle.conn_core.specs.declared.next.Next.TheVariants.{Ask, Gone, Closed as next_closed}
 use Rattle.conn_core.specs.Conns.{ConnParts, new_conn, conn_after_bytes, conn_after_end, conn_after_reply}
 use Rattle.conn_core.specs.HostedShards.{AreHostedIn}
 use Rattle.conn_core.specs.Turning.{Awaits, turn, conn_after_answer}
+use Rattle.conn_core.specs.Wishes.{conn_wish}
 use Rattle.broker_run.specs.declared.connection.Ended.{Ended}
 use Rattle.broker_run.specs.declared.connection.Ended.TheVariants.{Peer, Closed, Read, Write, NoMemory}
 use Rattle.broker_run.specs.declared.connection.Turned.{Turned}
 use Rattle.broker_run.specs.declared.connection.Turned.TheVariants.{Goes as Goes_on, Closes}
-use Rattle.broker_run.specs.Shared.{SharedParts, PassesParts}
-use Rattle.broker_run.specs.Acting.{AreOf, DoesPart, FailsPart, HostsAll}
-use Rattle.broker_run.specs.Moving.{Can, CanAll, Done, IsIdle, IsOpen, IsQuiet, Move, conn_after_moves, done_by, moments_of, read_by, written_by}
-use Rattle.broker_run.specs.Moving.Move.{asks, breaks, ends, sends}
+use Rattle.broker_locks.specs.Shared.{SharedParts, PassesParts}
+use Rattle.broker_locks.specs.Acting.{AreOf, DoesPart, FailsPart, HostsAll}
+use Rattle.broker_locks.specs.Waiting.{Glances, StopsWaiting, Waited}
+use Rattle.broker_run.specs.Moving.{Can, CanAll, Done, HasWaited, IsIdle, IsOpen, IsQuiet, Move, asked_of, conn_after_moves, deed_of, done_by}
+use Rattle.broker_run.specs.Moving.{moments_of, read_by, written_by}
+use Rattle.broker_run.specs.Moving.Move.{asks, breaks, does, ends, reads, sends}
 
 -- a connection, its passes, the bytes that its link has left and holds, and the answers that its clock gave
 pub record Scene (D : Type 0) : Type 0 where
@@ -44,11 +48,35 @@ pub record CanServe {D : Type 0} (conf : ConfigParts) (shared : SharedParts D) (
   pub hosts : HostsAll conf shared
   pub hosted : AreHostedIn conf conn
 
+-- a wait that ended as its peer had: where the link tells its bytes, all of them were read
+abbrev pub IsGone : Option Waited → (left : Option (List ℕ)) → Type 0
+IsGone None left = ⊤
+IsGone (Some waited) left = waited.gone ≡ true → IsAtEnd left
+
+abbrev pub IsGoneAt : Move → (left : Option (List ℕ)) → Type 0
+IsGoneAt (does done) left = IsGone done.waited left
+IsGoneAt (asks next) left = ⊤
+IsGoneAt (reads piece) left = ⊤
+IsGoneAt (sends reply) left = ⊤
+IsGoneAt (breaks front) left = ⊤
+IsGoneAt ends left = ⊤
+
+-- the moves read the link from here to there, and each such wait stands where it does
+abbrev pub Reads : List Move → (left later : Option (List ℕ)) → Type 0
+Reads [] left later = later ≡ left
+Reads (move ∷ moves) left later = (mid : Option (List ℕ)) × IsGoneAt move left × Consumes left mid (deed_of move).read × Reads moves mid later
+
 module _ {D : Type 0} (conf : ConfigParts) (seen : D → DiskView) (shared : SharedParts D) where
-  -- the parts were done one after the other
+  -- what was glanced at in a wait
+  abbrev pub DoesWait : Option Waited → PassesParts D → PassesParts D → Type 0
+  DoesWait None old new = new ≡ old
+  DoesWait (Some waited) old new = Glances seen shared waited.wish.group waited.glances old new
+
+  -- the parts were done one after the other, each behind its wait
   abbrev pub DoesAll : List Done → PassesParts D → PassesParts D → Type 0
   DoesAll [] old new = new ≡ old
-  DoesAll (d ∷ ds) old new = (mid : PassesParts D) × DoesPart seen shared d.part d.now d.answer old mid × DoesAll ds mid new
+  DoesAll (d ∷ ds) old new = (begun mid : PassesParts D) × DoesWait d.waited old begun
+      × DoesPart seen shared d.part d.now d.answer begun mid × DoesAll ds mid new
 
   -- These moves lead a connection and its passes so far: it can make each where it comes, their parts were done, and each part had a moment of its own.
   pub record Makes (moves : List Move) (old new : ConnParts) (old_passes new_passes : PassesParts D) (told later : Option (List ℕ)) : Type 0 where
@@ -61,6 +89,7 @@ module _ {D : Type 0} (conf : ConfigParts) (seen : D → DiskView) (shared : Sha
   pub record Goes (moves : List Move) (old new : Scene D) : Type 0 where
     pub makes : Makes moves old.conn new.conn old.passes new.passes old.told new.told
     pub fed : Consumes old.left new.left (read_by moves)
+    pub gone : Reads moves old.left new.left
     pub wrote : Appends old.held new.held (written_by moves)
 
   -- some moves were made, of which none closed it
@@ -77,6 +106,18 @@ module _ {D : Type 0} (conf : ConfigParts) (seen : D → DiskView) (shared : Sha
     pub conn : new ≡ conn_after_answer answer old
     pub moment : TellsMore told later (now ∷ [])
 
+  -- the same behind the wait that the connection wished for
+  pub record Reached (part : Part) (left : Option (List ℕ)) (old new : ConnParts) (old_passes new_passes : PassesParts D)
+      (told later : Option (List ℕ)) : Type 0 where
+    pub waited : Option Waited
+    pub has : HasWaited (conn_wish old) waited
+    pub begun : PassesParts D
+    pub waits : DoesWait waited old_passes begun
+    pub until : Option (List ℕ)
+    pub moments : TellsMore told until (asked_of waited)
+    pub gone : IsGone waited left
+    pub asked : Asked part old new begun new_passes until later
+
   -- No memory was found: in the act, or when its answer was given.
   pub record Stopped (part : Part) (old new : ConnParts) (old_passes new_passes : PassesParts D) (told later : Option (List ℕ)) : Type 0 where
     pub now : ℕ
@@ -84,10 +125,32 @@ module _ {D : Type 0} (conf : ConfigParts) (seen : D → DiskView) (shared : Sha
         ⊎ ((answer : PartAnswer) × DoesPart seen shared part now answer old_passes new_passes × (new ≡ conn_after_end old))
     pub moment : TellsMore told later (now ∷ [])
 
-  -- nothing was done, or a part that was asked wasn't answered
+  -- the same behind a wait
+  pub record Halted (part : Part) (old new : ConnParts) (old_passes new_passes : PassesParts D) (told later : Option (List ℕ)) : Type 0 where
+    pub waited : Option Waited
+    pub has : HasWaited (conn_wish old) waited
+    pub begun : PassesParts D
+    pub waits : DoesWait waited old_passes begun
+    pub until : Option (List ℕ)
+    pub moments : TellsMore told until (asked_of waited)
+    pub stopped : Stopped part old new begun new_passes until later
+
+  -- none was found to wait
+  pub record Unwaited (old new : ConnParts) (old_passes new_passes : PassesParts D) (told later : Option (List ℕ)) : Type 0 where
+    pub wish : WaitWish
+    pub wished : conn_wish old ≡ Some wish
+    pub stops : StopsWaiting seen shared wish old_passes new_passes told later
+    pub conn : new ≡ old
+
+  -- where memory ran out, in the wait or behind it
+  abbrev pub Interrupted : Part → ConnParts → ConnParts → PassesParts D → PassesParts D → (told later : Option (List ℕ)) → Type 0
+  Interrupted part old new old_passes new_passes told later =
+      Unwaited old new old_passes new_passes told later ⊎ Halted part old new old_passes new_passes told later
+
+  -- nothing was done, or a wait wasn't ended, or a part that was asked wasn't answered
   abbrev pub LosesPart : ConnParts → ConnParts → PassesParts D → PassesParts D → (told later : Option (List ℕ)) → Type 0
   LosesPart at new mid passes told later =
-      ((passes ≡ mid) × (later ≡ told)) ⊎ ((part : Part) × Awaits (Ask part) at × Stopped part at new mid passes told later)
+      ((passes ≡ mid) × (later ≡ told)) ⊎ ((part : Part) × Awaits (Ask part) at × Interrupted part at new mid passes told later)
 
   -- What an act that found no memory leaves behind: bytes that came and weren't fed, which were read where it was idle, or a part.
   pub record Loses (mid new : Scene D) : Type 0 where

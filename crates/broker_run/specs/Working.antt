@@ -3,12 +3,12 @@
 -- and released, entry by entry, and then the same of the second one.
 use Rattle.std.specs.Prelude.{◌⊎◌, ℕ, zero, suc, List, Option}
 use Rattle.edge_io.specs.Views.{DiskView}
-use Rattle.broker_run.specs.Expiring.{IsTurn}
-use Rattle.broker_run.specs.Rows.{IsUnused}
+use Rattle.broker_locks.specs.Expiring.{IsTurn}
+use Rattle.broker_locks.specs.Rows.{IsUnused}
 use Rattle.broker_run.specs.Serving.{IsServed}
-use Rattle.broker_run.specs.Shared.{PassesParts, SharedParts}
+use Rattle.broker_locks.specs.Shared.{PassesParts, SharedParts}
 use Rattle.broker_run.specs.declared.connection.Ended.{Ended}
-use Rattle.broker_run.specs.declared.expiry.TurnAnswer.{TurnAnswer}
+use Rattle.broker_locks.specs.declared.expiry.TurnAnswer.{TurnAnswer}
 
 module _ {D : Type 0} (seen : D → DiskView) (shared : SharedParts D) where
   -- a link was served up to some end

@@ -6,12 +6,12 @@ ghost use Rattle.topic_conf.specs.Configs.{ConfigParts};
 ghost use Rattle.conn_core.specs.HostedShards.{IsHostedPart};
 ghost use Rattle.conn_core.specs.Conns.{new_conn};
 ghost use Rattle.conn_core.specs.Turning.{Awaits};
-ghost use Rattle.broker_run.specs.Acting.{AreOf, HostsAll, StayOf};
-ghost use Rattle.broker_run.specs.Serving.{Asked, Breaks, CanServe, HasEndCause, HasTurnCause, IsServed};
+ghost use Rattle.conn_core.specs.declared.work.Work.TheVariants.{Closing};
+ghost use Rattle.broker_locks.specs.Acting.{AreOf, HostsAll, StayOf};
+ghost use Rattle.broker_run.specs.Serving.{Asked, Breaks, CanServe, HasEndCause, HasTurnCause, Interrupted, IsServed, Reached};
 ghost use Rattle.broker_run.specs.Serving.{Fails, Received, Releases, Replied, Stopped, Talks, TurnsTo, scene_of};
 
-use crate::parts::do_part;
-use crate::shared::{Passes, Shared};
+use broker_locks::{Passes, Shared, do_part, wait_for};
 use call_fold::Part;
 use conn_core::{Conn, Next};
 use edge_io::{Clock, Disk, Failed, Gate, GatePlace, Link, send_all};
@@ -68,6 +68,38 @@ fn ask<R: Wait, C: Clock, D: Disk>(
     }
 }
 
+// Waits where the connection wishes to, and asks the shard of the part that it awaits.
+fn do_next<R: Wait, K: Link, C: Clock + Drop, G: Gate, D: Disk + Drop>(
+    rt: &R,
+    conf: &Config,
+    shared: &Shared<D>,
+    passes: &mut Passes<D>,
+    number: u32,
+    conn: &mut Conn,
+    part: Part,
+    link: &K,
+    clock: &mut C,
+    gate: &G,
+) -> Result<(), NoMemory>
+    requires of { AreOf shared.now passes.old }
+    requires asked { Awaits (Next.Ask part) conn.old }
+    requires hosted { IsHostedPart (length shared.now.parts) part }
+    ensures stay { StayOf shared.now passes.old passes.new }
+    ensures ok { OnOk result (Reached conf.now D.seen shared.now part (K.left link.now)
+        conn.old conn.new passes.old passes.new (C.told clock.old) (C.told clock.new)) }
+    ensures err { OnErr result (Interrupted conf.now D.seen shared.now part
+        conn.old conn.new passes.old passes.new (C.told clock.old) (C.told clock.new)) }
+{
+    if let Some(wish) = conn.wait_wish() {
+        match wait_for(rt, shared, passes, wish, link, clock) {
+            Ok(()) => {}
+            Err(fault) => return Err(fault),
+        }
+    }
+    gate.at(GatePlace::Part { link: number });
+    ask(rt, conf, shared, passes, conn, part, clock)
+}
+
 // Sends all finished replies.
 fn reply<K: Link, G: Gate>(
     conn: &mut Conn,
@@ -122,7 +154,7 @@ fn receive<K: Link>(conn: &mut Conn, link: &mut K) -> Result<Turned, NoMemory>
 }
 
 // One turn of the connection, whose finished replies were written.
-fn turn<R: Wait, K: Link, C: Clock, G: Gate, D: Disk>(
+fn turn<R: Wait, K: Link, C: Clock + Drop, G: Gate, D: Disk + Drop>(
     rt: &R,
     conf: &Config,
     shared: &Shared<D>,
@@ -149,8 +181,9 @@ fn turn<R: Wait, K: Link, C: Clock, G: Gate, D: Disk>(
     match conn.next_part(conf) {
         Ok(Next::Idle) => receive(conn, link),
         Ok(Next::Ask(part)) => {
-            gate.at(GatePlace::Part { link: number });
-            match ask(rt, conf, shared, passes, conn, part, clock) {
+            match do_next(
+                rt, conf, shared, passes, number, conn, part, link, clock, gate,
+            ) {
                 Ok(()) => Ok(Turned::Goes),
                 Err(fault) => Err(fault),
             }
@@ -163,7 +196,7 @@ fn turn<R: Wait, K: Link, C: Clock, G: Gate, D: Disk>(
 }
 
 // Serves the connection until it closes.
-fn talk<R: Wait, K: Link, C: Clock, G: Gate, D: Disk>(
+fn talk<R: Wait, K: Link, C: Clock + Drop, G: Gate, D: Disk + Drop>(
     rt: &R,
     conf: &Config,
     shared: &Shared<D>,
@@ -201,7 +234,7 @@ fn talk<R: Wait, K: Link, C: Clock, G: Gate, D: Disk>(
 }
 
 // Does what a connection that closes has left to do, until it is gone.
-fn finish<R: Wait, C: Clock, G: Gate, D: Disk>(
+fn finish<R: Wait, C: Clock + Drop, G: Gate, D: Disk + Drop>(
     rt: &R,
     conf: &Config,
     shared: &Shared<D>,
@@ -212,6 +245,7 @@ fn finish<R: Wait, C: Clock, G: Gate, D: Disk>(
     gate: &G,
 ) -> Result<(), NoMemory>
     requires ready { CanServe conf.now shared.now passes.old conn.old }
+    requires closing { conn.old.work ≡ Closing }
     ensures stay { StayOf shared.now passes.old passes.new }
     ensures ok { OnOk result (Releases conf.now D.seen shared.now true
         conn.old conn.new passes.old passes.new (C.told clock.old) (C.told clock.new)) }
@@ -235,7 +269,7 @@ fn finish<R: Wait, C: Clock, G: Gate, D: Disk>(
 }
 
 // Serves a connection that has just come, by this configuration.
-fn serve_new<R: Wait, D: Disk, K: Link, C: Clock, G: Gate>(
+fn serve_new<R: Wait, D: Disk + Drop, K: Link, C: Clock + Drop, G: Gate>(
     rt: &R,
     conf: &Config,
     shared: &Shared<D>,
@@ -265,7 +299,7 @@ fn serve_new<R: Wait, D: Disk, K: Link, C: Clock, G: Gate>(
 }
 
 // Serves one connection from its beginning, by this configuration.
-fn serve<R: Wait, D: Disk, K: Link, C: Clock, G: Gate>(
+fn serve<R: Wait, D: Disk + Drop, K: Link, C: Clock + Drop, G: Gate>(
     rt: &R,
     alloc: Global,
     conf: &Config,
@@ -297,9 +331,9 @@ fn serve<R: Wait, D: Disk, K: Link, C: Clock, G: Gate>(
 /// The bytes that the link gives are fed to a connection that has just come. Each part that it asks is done by one
 /// act of the pass of its shard, at a moment of its own, and its answer is given. A finished reply is written at
 /// once. The link is read only where the connection is idle: no request is in hand, none can be taken up, and no
-/// reply is left to be written. Where the peer ends or a call of the link fails, the releases are done all the same;
+/// reply is left to be written. A fetch that may wait does so before its first part, as `wait_for` says. Where the peer ends or a call of the link fails, the releases are done all the same;
 /// where no memory is found, the call ends there.
-pub fn serve_connection<R: Wait, D: Disk, K: Link, C: Clock, G: Gate>(
+pub fn serve_connection<R: Wait, D: Disk + Drop, K: Link, C: Clock + Drop, G: Gate>(
     rt: &R,
     alloc: Global,
     broker: &Shared<D>,
@@ -320,7 +354,7 @@ pub fn serve_connection<R: Wait, D: Disk, K: Link, C: Clock, G: Gate>(
     serve(
         rt,
         alloc,
-        &broker.conf,
+        broker.conf(),
         broker,
         passes,
         number,

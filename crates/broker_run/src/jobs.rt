@@ -3,15 +3,15 @@ ghost use Rattle.std.specs.Prelude.{◌≡◌, ◌≢◌, ◌≤◌, ◌⊎◌, 
 ghost use Rattle.edge_io.specs.Serving.{Gave};
 ghost use Rattle.std.specs.List.{AllByRecursion};
 ghost use Rattle.edge_io.specs.Causes.{Rose};
-ghost use Rattle.broker_run.specs.Acting.{HostsAll};
+ghost use Rattle.broker_locks.specs.Acting.{HostsAll};
 ghost use Rattle.broker_run.specs.Homes.{HasLinksEnd, IsHome, IsNamed};
-ghost use Rattle.broker_run.specs.Rows.{AreAll, IsAlone, IsUnused};
+ghost use Rattle.broker_locks.specs.Rows.{AreAll, IsAlone, IsUnused};
 ghost use Rattle.broker_run.specs.Working.{HasWorked};
 
 use crate::desk::Desk;
 use crate::naming::{Handed, Named, Naming};
-use crate::shared::{Passes, Shared};
 use crate::worker::Hand;
+use broker_locks::{Passes, Shared};
 use edge_io::{Clock, Disk, Gate, Link, Listener, Spawner, start};
 use share_model::NoMemory;
 use std::alloc::Global;

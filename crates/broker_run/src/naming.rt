@@ -4,7 +4,7 @@ ghost use Rattle.std.specs.Prelude.{◌≡◌, IfOk};
 ghost use Rattle.std.specs.Arc.{arc_value};
 ghost use Rattle.broker_run.specs.Homes.{IsHome, IsNamed};
 
-use crate::shared::{Passes, Shared};
+use broker_locks::{Passes, Shared};
 use edge_io::{Clock, Disk, Link};
 use std::alloc::{AllocError, Global};
 use std::marker::{Brand, Model, PhantomData};
@@ -13,7 +13,7 @@ use std::sync::Arc;
 /// Names the locks of one server. Each server picks it.
 pub trait Naming<D> {
     ghost use Rattle.std.specs.Prelude.{Option};
-    ghost use Rattle.broker_run.specs.Shared.{SharedParts};
+    ghost use Rattle.broker_locks.specs.Shared.{SharedParts};
 
     ghost shared: { Option (SharedParts D) };
 }
@@ -33,7 +33,7 @@ pub struct Handed<K: Link, C: Clock, D: Disk, B: Naming<D>> {
 }
 
 impl<K: Link, C: Clock, D: Disk, B: Naming<D>> Model for Handed<K, C, D, B> {
-    ghost use Rattle.broker_run.specs.Shared.{PassesParts};
+    ghost use Rattle.broker_locks.specs.Shared.{PassesParts};
     ghost use Rattle.broker_run.specs.Homes.{IsHome};
 
     ghost Value = { PassesParts D };

@@ -4,14 +4,13 @@ ghost use Rattle.edge_io.specs.Bays.{SameSlot};
 ghost use Rattle.broker_model.specs.Hosted.{IsTaken};
 ghost use Rattle.broker_core.specs.Bays.{AreOut, TellsStill};
 ghost use Rattle.broker_run.specs.Homes.{HasLinksEnd};
-ghost use Rattle.broker_run.specs.Opening.{IsRefused};
+ghost use Rattle.broker_locks.specs.Opening.{IsRefused};
 ghost use Rattle.broker_run.specs.Server.{EndsServing, Serves};
 ghost use Rattle.broker_run.specs.Working.{HasWorked};
 
-use crate::close::close_shared;
 use crate::jobs::{LinksEnd, serve_links};
-use crate::open::open_shared;
 use broker_core::CoreOpen;
+use broker_locks::{close_shared, open_shared};
 use edge_io::{Bay, Clock, Disk, Gate, Listener, Spawner};
 use std::alloc::Global;
 use std::sync::Wait;

@@ -6,8 +6,8 @@ ghost use Rattle.broker_run.specs.Working.{HasExpired, HasServed};
 
 use crate::connection::{Ended, serve_connection};
 use crate::desk::Desk;
-use crate::expiry::expiry_turn;
 use crate::naming::{Handed, Named, Naming};
+use broker_locks::expiry_turn;
 use edge_io::{Clock, CloseReason, Disk, Gate, Link};
 use share_model::CloseCause;
 use std::alloc::Global;
@@ -43,7 +43,7 @@ fn tell_end<K: Link>(link: &mut K, ended: Ended)
 }
 
 // Serves one link.
-fn serve_link<R: Wait, K: Link, C: Clock, G: Gate, D: Disk, B: Naming<D>>(
+fn serve_link<R: Wait, K: Link, C: Clock + Drop, G: Gate, D: Disk + Drop, B: Naming<D>>(
     rt: &R,
     alloc: Global,
     shared: &Named<D, B>,
@@ -72,7 +72,7 @@ fn serve_link<R: Wait, K: Link, C: Clock, G: Gate, D: Disk, B: Naming<D>>(
 }
 
 // Serves links from the desk until the end was told and none is left.
-fn serve_all<R: Wait, K: Link + Drop, C: Clock, G: Gate, D: Disk, B: Naming<D>>(
+fn serve_all<R: Wait, K: Link + Drop, C: Clock + Drop, G: Gate, D: Disk + Drop, B: Naming<D>>(
     rt: &R,
     alloc: Global,
     shared: &Named<D, B>,

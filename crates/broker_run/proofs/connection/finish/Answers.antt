@@ -1,14 +1,16 @@
-use Rattle.std.proofs.Common.{rules, ◌≡◌, Some, inr}
+use Rattle.std.proofs.Common.{rules, ◌≡◌, Some, inr, subst, sym}
 use Rattle.conn_core.specs.declared.next.Next.TheVariants.{Ask}
 use Rattle.conn_core.specs.Turning.{awaited_part, turn}
 use Rattle.broker_run.specs.Serving.{Asked, Stopped}
-use Rattle.broker_run.proofs.Runs.{quiet_asked, quiet_none, quiet_then, quiet_turned}
+use Rattle.broker_run.proofs.Ending.{HasClosed, closed_answered, closed_stays, closed_wishes_nothing}
+use Rattle.broker_run.proofs.Runs.{halted_so, quiet_asked, quiet_none, quiet_then, quiet_turned}
 use Rattle.broker_run.proofs.Hosted.{part_hosted, quiet_hosted}
-use Rattle.broker_run.proofs.Places.{stay_none, stay_on}
+use Rattle.broker_locks.proofs.Places.{stay_none, stay_on}
 use Rattle.broker_run.proofs.connection.finish.Goals as goal
 
 pub loop-init : goal.loop-init
 loop-init g c = record {
+  closed = c.requires.closing;
   stay = stay_none c.args.shared.now c.args.passes.now c.requires.ready.of;
   quiet = quiet_none c.args.conf.now g.D.Disk.seen c.args.shared.now _ _ _;
 }
@@ -18,6 +20,7 @@ loop-preserved g c =
     let is : c.next_part.new.self ≡ (turn c.args.conf.now c.loop.conn).conn = search rules in
     let i = c.loop.invariant in
     record {
+      closed = subst HasClosed (sym is) (closed_stays c.args.conf.now c.loop.conn i.closed);
       stay = i.stay;
       quiet = quiet_then c.args.conf.now g.D.Disk.seen c.args.shared.now _ _ _ _ _ _ _ _ _ i.quiet
           (quiet_turned c.args.conf.now g.D.Disk.seen c.args.shared.now _ _ _ _ is);
@@ -29,11 +32,13 @@ loop-preserved-in_default g c =
     let awaits : awaited_part c.next_part.new.self ≡ Some c.in-Ok-Ask.part = search rules in
     let a : Asked c.args.conf.now g.D.Disk.seen c.args.shared.now c.in-Ok-Ask.part c.next_part.new.self c.ask.new.conn c.loop.passes c.ask.new.passes (g.C.Clock.told c.loop.clock) (g.C.Clock.told c.ask.new.clock) = search rules in
     let i = c.loop.invariant in
+    let k : HasClosed c.next_part.new.self = subst HasClosed (sym is) (closed_stays c.args.conf.now c.loop.conn i.closed) in
     record {
+      closed = subst HasClosed (sym a.conn) (closed_answered a.answer c.next_part.new.self k);
       stay = stay_on c.args.shared.now _ _ _ i.stay c.ask.ensures.stay;
       quiet = quiet_then c.args.conf.now g.D.Disk.seen c.args.shared.now _ _ _ _ _ _ _ _ _ i.quiet
           (quiet_then c.args.conf.now g.D.Disk.seen c.args.shared.now _ _ _ _ _ _ _ _ _ (quiet_turned c.args.conf.now g.D.Disk.seen c.args.shared.now _ _ _ _ is)
-          (quiet_asked c.args.conf.now g.D.Disk.seen c.args.shared.now c.in-Ok-Ask.part _ _ _ _ _ _ awaits a));
+          (quiet_asked c.args.conf.now g.D.Disk.seen c.args.shared.now c.in-Ok-Ask.part _ _ _ _ _ _ awaits (closed_wishes_nothing c.next_part.new.self k) a));
     }
 
 pub returns-in-Err-ask-clause-stay : goal.returns-in-Err-ask-clause-stay
@@ -50,7 +55,12 @@ returns-in-Err-ask-clause-err g c =
       until = g.C.Clock.told c.loop.clock;
       quiet = quiet_then c.args.conf.now g.D.Disk.seen c.args.shared.now _ _ _ _ _ _ _ _ _ c.loop.invariant.quiet
           (quiet_turned c.args.conf.now g.D.Disk.seen c.args.shared.now _ _ _ _ is);
-      last = inr (c.in-Ok-Ask.part, awaits, s);
+      last = inr (
+        c.in-Ok-Ask.part,
+        awaits,
+        halted_so c.args.conf.now g.D.Disk.seen c.args.shared.now c.in-Ok-Ask.part _ _ _ _ _ _
+            (closed_wishes_nothing c.next_part.new.self (subst HasClosed (sym is) (closed_stays c.args.conf.now c.loop.conn c.loop.invariant.closed))) s,
+      );
     }
 
 pub ask-requires : goal.ask-requires

@@ -2,8 +2,9 @@ use Rattle.std.proofs.Common.{rules, ◌≢◌, true, false}
 use Rattle.broker_run.specs.declared.connection.Ended.TheVariants.{NoMemory}
 use Rattle.broker_run.specs.Serving.{Breaks, Releases, Talks, scene}
 use Rattle.broker_run.proofs.Runs.{cut_after, cut_here, served}
+use Rattle.broker_run.proofs.Ending.{talks_closed}
 use Rattle.broker_run.proofs.Hosted.{new_hosted, talks_ends, talks_hosted}
-use Rattle.broker_run.proofs.Places.{stay_on}
+use Rattle.broker_locks.proofs.Places.{stay_on}
 use Rattle.broker_run.proofs.connection.serve_new.Goals as goal
 
 pub returns-in_default-clause-served : goal.returns-in_default-clause-served
@@ -52,4 +53,5 @@ finish-requires g c =
         hosts = c.requires.hosts;
         hosted = talks_hosted c.args.conf.now g.D.Disk.seen c.args.shared.now c.in-Ok.ended _ _ a (new_hosted c.args.conf.now c.args.conn.now c.requires.new);
       };
+      closing = talks_closed c.args.conf.now g.D.Disk.seen c.args.shared.now c.in-Ok.ended _ _ a;
     }

@@ -3,7 +3,7 @@ use Rattle.broker_run.specs.declared.connection.Turned.TheVariants.{Closes}
 use Rattle.broker_run.specs.Serving.{Breaks, GoesOn, HasTurnCause, Replied, Talks, scene}
 use Rattle.broker_run.proofs.Runs.{breaks_then, goes_none, goes_on, talks_short, talks_then, then_replied}
 use Rattle.broker_run.proofs.Hosted.{cause_then, goes_hosted}
-use Rattle.broker_run.proofs.Places.{stay_none, stay_on}
+use Rattle.broker_locks.proofs.Places.{stay_none, stay_on}
 use Rattle.broker_run.proofs.connection.talk.Goals as goal
 
 pub loop-init : goal.loop-init

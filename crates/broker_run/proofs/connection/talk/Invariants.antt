@@ -1,5 +1,5 @@
 use Rattle.std.proofs.Common.{◌≤◌}
-use Rattle.broker_run.specs.Acting.{StayOf}
+use Rattle.broker_locks.specs.Acting.{StayOf}
 use Rattle.broker_run.specs.Serving.{GoesOn, scene}
 use Rattle.broker_run.proofs.connection.talk.Given as goal
 

@@ -1,10 +1,10 @@
 use Rattle.std.proofs.Common.{rules, ◌≡◌, Some}
 use Rattle.conn_core.specs.declared.next.Next.TheVariants.{Ask, Closed, Gone, Idle, Ready}
 use Rattle.conn_core.specs.Turning.{Waits, awaited_part, turn}
-use Rattle.broker_run.specs.Serving.{Asked, Stopped}
+use Rattle.broker_run.specs.Serving.{Interrupted, Reached}
 use Rattle.broker_run.proofs.Runs.{asked, breaks_asked, breaks_fed, breaks_here, closed_by, err_so, if_ok_so, received, turned}
 use Rattle.broker_run.proofs.Hosted.{part_hosted}
-use Rattle.broker_run.proofs.Places.{stay_none}
+use Rattle.broker_locks.proofs.Places.{stay_none}
 use Rattle.broker_run.proofs.connection.turn.Goals as goal
 
 pub returns-in-Ok-Idle-clause-stay : goal.returns-in-Ok-Idle-clause-stay
@@ -28,8 +28,8 @@ returns-in-Ok-Idle-clause-err g c =
     rw e.same (err_so c.receive.result (λ r. breaks_fed c.args.conf.now g.D.Disk.seen c.args.shared.now _ _ _ c.args.passes.now _ _ _ _ tells is
     (record { waits = w; answered = c.requires.answered }) r.1) e.err)
 
-pub ask-requires : goal.ask-requires
-ask-requires g c =
+pub do_next-requires : goal.do_next-requires
+do_next-requires g c =
     let awaits : awaited_part c.next_part.new.self ≡ Some c.in-Ok-Ask.part = search rules in
     let tells : Ask c.in-Ok-Ask.part ≡ (turn c.args.conf.now c.args.conn.now).next = search rules in
     let r = c.requires.ready in
@@ -40,15 +40,17 @@ returns-in-Ok-clause-ok g c =
     let tells : Ask c.in-Ok-Ask.part ≡ (turn c.args.conf.now c.args.conn.now).next = search rules in
     let is : c.next_part.new.self ≡ (turn c.args.conf.now c.args.conn.now).conn = search rules in
     let awaits : awaited_part c.next_part.new.self ≡ Some c.in-Ok-Ask.part = search rules in
-    let a : Asked c.args.conf.now g.D.Disk.seen c.args.shared.now c.in-Ok-Ask.part c.next_part.new.self c.ask.new.conn c.args.passes.now c.ask.new.passes (g.C.Clock.told c.args.clock.now) (g.C.Clock.told c.ask.new.clock) = search rules in
+    let a : Reached c.args.conf.now g.D.Disk.seen c.args.shared.now c.in-Ok-Ask.part (g.K.Link.left c.args.link.now) c.next_part.new.self c.do_next.new.conn c.args.passes.now c.do_next.new.passes
+    (g.C.Clock.told c.args.clock.now) (g.C.Clock.told c.do_next.new.clock) = search rules in
     asked c.args.conf.now g.D.Disk.seen c.args.shared.now c.in-Ok-Ask.part _ _ _ _ _ _ _ _ _ tells is awaits a
 
-pub returns-in-Err-ask-clause-err : goal.returns-in-Err-ask-clause-err
-returns-in-Err-ask-clause-err g c =
+pub returns-in-Err-do_next-clause-err : goal.returns-in-Err-do_next-clause-err
+returns-in-Err-do_next-clause-err g c =
     let tells : Ask c.in-Ok-Ask.part ≡ (turn c.args.conf.now c.args.conn.now).next = search rules in
     let is : c.next_part.new.self ≡ (turn c.args.conf.now c.args.conn.now).conn = search rules in
     let awaits : awaited_part c.next_part.new.self ≡ Some c.in-Ok-Ask.part = search rules in
-    let a : Stopped c.args.conf.now g.D.Disk.seen c.args.shared.now c.in-Ok-Ask.part c.next_part.new.self c.ask.new.conn c.args.passes.now c.ask.new.passes (g.C.Clock.told c.args.clock.now) (g.C.Clock.told c.ask.new.clock) = search rules in
+    let a : Interrupted c.args.conf.now g.D.Disk.seen c.args.shared.now c.in-Ok-Ask.part c.next_part.new.self c.do_next.new.conn c.args.passes.now c.do_next.new.passes
+    (g.C.Clock.told c.args.clock.now) (g.C.Clock.told c.do_next.new.clock) = search rules in
     breaks_asked c.args.conf.now g.D.Disk.seen c.args.shared.now c.in-Ok-Ask.part _ _ _ _ _ _ _ _ _ tells is awaits a
 
 pub returns-in-Ok-Closed-clause-stay : goal.returns-in-Ok-Closed-clause-stay

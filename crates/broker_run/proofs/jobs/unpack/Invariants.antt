@@ -1,6 +1,6 @@
 use Rattle.std.proofs.Common.{◌≡◌, ◌+◌, ◌≤◌, vec_len, vec_capacity}
 use Rattle.std.specs.List.{AllByRecursion}
-use Rattle.broker_run.specs.Rows.{IsAlone}
+use Rattle.broker_locks.specs.Rows.{IsAlone}
 use Rattle.broker_run.specs.Working.{HasWorked}
 use Rattle.broker_run.proofs.jobs.unpack.Given as goal
 

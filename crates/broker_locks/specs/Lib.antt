@@ -1,0 +1,9 @@
+pub mod Shared
+pub mod Rows
+pub mod Opening
+pub mod Histories
+pub mod Closing
+pub mod Acting
+pub mod Waiting
+pub mod Looking
+pub mod Expiring

@@ -1,4 +1,0 @@
-use Rattle.broker_run.proofs.close.put_back.Goals as goal
-
-pub returns : goal.returns
-returns g c = rw (← c.host.view_is) c.put_part_back.ensures

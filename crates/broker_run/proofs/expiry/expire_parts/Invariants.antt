@@ -1,9 +1,0 @@
-use Rattle.broker_run.specs.Acting.{StayOf}
-use Rattle.broker_run.specs.Expiring.{Expires}
-use Rattle.broker_run.proofs.expiry.expire_parts.Given as goal
-
-abbrev pub invariant-loop-shard : goal.invariant-loop-shard
-invariant-loop-shard g l = record {
-  stay : StayOf l.initial.shared l.fn.passes l.passes;
-  done : Expires g.D.Disk.seen l.initial.shared l.shard l.answer l.fn.passes l.passes (g.C.Clock.told l.fn.clock) (g.C.Clock.told l.clock);
-}

@@ -1,4 +1,0 @@
-use Rattle.broker_run.proofs.parts.ask_part.Goals as goal
-
-pub returns-in-Err-clause-err : goal.returns-in-Err-clause-err
-returns-in-Err-clause-err g c = (c.in-Err.fault, rw (← c.new.ensures) c.in-Err.ensures.acts)
