@@ -2,8 +2,8 @@
 use Rattle.std.proofs.Common.{◌≡◌, refl, sym, ap, ◌∙◌, subst, ℕ, List, Some, is_some}
 use Rattle.edge_io.specs.Armed.{RunsOn}
 use Rattle.edge_io.specs.Bays.{IsAsTold, Holds, SameSlot}
-use Rattle.edge_io.proofs.Runs.{runs_none}
 use Rattle.share_top.specs.Apart.{RunsDisk}
+use Rattle.share_top.specs.Changes.{bay_change}
 use Rattle.edge_io.specs.Views.{DiskView, BayView}
 
 module _ {B D : Type 0} (bay_seen : B → BayView D) (name : List ℕ) where
@@ -26,13 +26,8 @@ module _ {B D : Type 0} (bay_seen : B → BayView D) (seen : D → DiskView) (na
 
   -- the disk was used and put back
   pub runs_back : (mid : B) (given last : D) → IsAsTold ((bay_seen old).disk name) given → is_some ((bay_seen mid).disk name) ≡ is_some ((bay_seen old).disk name)
-      → Holds ((bay_seen mid).disk name) ((bay_seen new).disk name) last → Runs given last → RunsDisk bay_seen seen name old new
+      → Holds ((bay_seen mid).disk name) ((bay_seen new).disk name) last → Runs given last → RunsDisk (bay_change bay_seen seen old new) name
   runs_back mid given last as_told told there runs d e was is =
       let begun : given ≡ d = as_told d was in
       let ended : last ≡ e = some_one last e (sym (there (told ∙ ap is_some was)) ∙ is) in
       subst (λ (x : D). Runs x e) begun (subst (λ (y : D). Runs given y) ended runs)
-
-  -- nothing was done to it
-  pub runs_same : (bay_seen new).disk name ≡ (bay_seen old).disk name → RunsDisk bay_seen seen name old new
-  runs_same same d e was is =
-      subst (λ (y : D). Runs d y) (some_one d e (sym was ∙ sym same ∙ is)) (runs_none seen d)

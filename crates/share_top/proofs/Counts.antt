@@ -16,6 +16,7 @@ use Rattle.broker_core.specs.declared.slot.PartSlot.{PartSlot}
 use Rattle.broker_core.specs.Bays.{AreTakenFrom, TakenIf, BothTaken, IsTakenFrom, HasName, HasRisen, RisenIf, OneRisen, BothRisen}
 use Rattle.broker_core.specs.Carried.{GoesOn}
 use Rattle.broker_core.specs.Hosts.{HostsParts, LeftDisks, AreOpen, AreOpenParts, IsOpen, IsOpenState, GoOn, GoesOnIf, DiskGoesOn, BothGoOn, OneRose, RoseIf, PartRose, BothRose, disks_in, foreign_disks, open_disk, part_disk, slots_disks}
+use Rattle.share_top.specs.Changes.{bay_change}
 use Rattle.share_top.specs.Sessions.{CountRose}
 use Rattle.edge_io.specs.Views.{DiskView, BayView}
 
@@ -109,7 +110,7 @@ module _ {D : Type 0} (seen : D → DiskView) where
 module _ {B D : Type 0} (bay_seen : B → BayView D) (seen : D → DiskView)
     (conf : ConfigParts) (old mid new : B) (kept : (m : List ℕ) → (bay_seen new).taken m ≡ (bay_seen mid).taken m) where
   abbrev Result : Type 0
-  Result = CountRose bay_seen seen conf old new
+  Result = CountRose (bay_change bay_seen seen old new) conf
 
   abbrev Back : Type 0
   Back = Rose (bay_seen mid).faults (bay_seen new).faults

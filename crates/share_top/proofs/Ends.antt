@@ -21,8 +21,6 @@ use Rattle.broker_model.specs.Shards.{Shards, HostedPart, hosted_by}
 use Rattle.broker_model.specs.Machine.{Machine, StandWith, StandsFor, StandsForPart}
 use Rattle.broker_model.specs.Disks.{Facts, Disks, facts_of}
 use Rattle.broker_model.specs.States.{ReachTo, State}
-use Rattle.broker_model.proofs.Holds.{holds}
-use Rattle.broker_model.proofs.Passing.{openings_well}
 use Rattle.broker_core.specs.declared.fault.CoreOpen.{CoreOpen}
 use Rattle.broker_core.specs.declared.fault.CoreOpen.TheVariants as open_fault
 use Rattle.broker_core.specs.declared.slot.PartSlot.{PartSlot}
@@ -34,7 +32,7 @@ use Rattle.broker_core.proofs.Opening.{is_told}
 use Rattle.broker_core.proofs.Places.{is_same, one_in_either, same_self}
 use Rattle.share_top.specs.declared.status.Status.{Status}
 use Rattle.share_top.specs.declared.status.Status.TheVariants.{Done, Usage, Malformed, ReadFault, WriteFault, Damaged, Device, NoMemory, Listener, Spawner}
-use Rattle.share_top.specs.Changes.{InputChange, OutputChange}
+use Rattle.share_top.specs.Changes.{InputChange, OutputChange, bay_change}
 use Rattle.share_top.specs.Sessions.{Ending, Leaves, MayLeaveMore, Ran, IsSession, OfBay, OverBay, CountRose, Writes, WritesAll, WritesAllFront, WritesThen, WritesThenFront, WritesFront}
 use Rattle.share_top.specs.Dumping.{IsDumped, dump_text}
 use Rattle.share_top.specs.Statuses.{ComesNext, DisksStay, IsPlayed, IsNotOpened, IsRefusedScript, IsDone, IsBegun}
@@ -505,7 +503,7 @@ module _ {B D : Type 0} (bay_seen : B → BayView D) (seen : D → DiskView) whe
 
     pub over : (Ends : Ending) → IsEnding Ends → (events : List Event) (Says : List Outcome → Type 0)
         → FromCore seen core left events Says Ends
-        → OverBay bay_seen seen conf old new (IsSession conf events Says Ends)
+        → OverBay (bay_change bay_seen seen old new) conf (IsSession conf events Says Ends)
     over Ends is events Says from = λ contents was t.
         let o = opens contents was t in
         let r : Ran conf (began o.0 core) events Says (Before Ends) =
@@ -535,15 +533,12 @@ module _ {B D : Type 0} (bay_seen : B → BayView D) (seen : D → DiskView) whe
                   (told state_a (inr (inl refl))) (told state_b (inr (inr refl))) stands)
                   (λ ends reached name taken log. reaches_at ends reached name log (found name taken)) r.ends;
             };
-            holds = holds conf (began o.0 core) r.last r.steps r.run;
-            well = openings_well conf contents o.0 o.2.opens;
-            unarmed = λ name taken none. ((o.2.disks name taken).spends.disarmed none).0;
           },
         )
 
     -- a broker that did no event
     pub dumped : (Says : List ℕ → Type 0) → ((m : Machine) → IsCore seen core m → StandStill seen m.shards left × Says (dump_text m.shards))
-        → ((m : Machine) (name : List ℕ) → facts_in seen left name ≡ (began m core).disks name) → OverBay bay_seen seen conf old new (IsDumped conf Says)
+        → ((m : Machine) (name : List ℕ) → facts_in seen left name ≡ (began m core).disks name) → OverBay (bay_change bay_seen seen old new) conf (IsDumped conf Says)
     dumped Says from known = λ contents was t.
         let o = opens contents was t in
         let d = from o.0 o.1 in
@@ -567,14 +562,14 @@ module _ {B D : Type 0} (bay_seen : B → BayView D) (seen : D → DiskView) whe
         )
 
     abbrev Session : List Event → (List Outcome → Type 0) → Ending → Type 0
-    Session events Says Ends = OverBay bay_seen seen conf old new (IsSession conf events Says Ends)
+    Session events Says Ends = OverBay (bay_change bay_seen seen old new) conf (IsSession conf events Says Ends)
 
     pub played_over : (summary : Bool) (input : InputChange) (output : OutputChange) (Rises Rose_over : Type 0) → (Rises → Rose_over) → (status : Status)
         → IsPlayed core.conf summary input output (FromCore seen core left) (NeverFrom seen core) Rises status
-        → IsPlayed conf summary input output Session (OfBay bay_seen seen conf old (λ contents was. ⊥)) Rose_over status
+        → IsPlayed conf summary input output Session (OfBay (bay_change bay_seen seen old new) conf (λ contents was. ⊥)) Rose_over status
     played_over summary input output Rises Rose_over rises status p =
         played conf summary input output (FromCore seen core left) Session
-        (NeverFrom seen core) (OfBay bay_seen seen conf old (λ contents was. ⊥)) Rises Rose_over
+        (NeverFrom seen core) (OfBay (bay_change bay_seen seen old new) conf (λ contents was. ⊥)) Rises Rose_over
         (λ events Says from. over (Leaves conf) (leaves_ends conf) events Says from)
         (λ Next events Says from. over (MayLeaveMore conf Next) (more_ends conf Next) events Says from)
         (λ never contents was t. let o = opens contents was t in never o.0 o.1) rises
@@ -587,9 +582,9 @@ module _ {B D : Type 0} (bay_seen : B → BayView D) (seen : D → DiskView) whe
   module _ (old new : B) (conf : ConfigParts) (output : OutputChange) (fault : CoreOpen)
       (damaged : (name : List ℕ) (place : ℕ) → fault ≡ open_fault.Damaged name place → (contents : List ℕ → List ℕ) (was : Disks) → Tells conf old contents was
       → IsDamagedDisk conf contents name place)
-      (rises : ((fault ≡ open_fault.Device) ⊎ (fault ≡ open_fault.Bay)) → CountRose bay_seen seen conf old new) where
+      (rises : ((fault ≡ open_fault.Device) ⊎ (fault ≡ open_fault.Bay)) → CountRose (bay_change bay_seen seen old new) conf) where
     pub not_opened : (status : Status) → IsRefusal fault output status
-        → IsNotOpened conf output (OfBay bay_seen seen conf old) (CountRose bay_seen seen conf old new) status
+        → IsNotOpened (bay_change bay_seen seen old new) conf output status
     not_opened Done r = r
     not_opened Usage r = r
     not_opened Listener r = r
@@ -623,7 +618,7 @@ refusal_device fault output status r is = go (subst (λ (s : Status). IsRefusal 
 -- what a start that was refused leaves of the disks
 pub disks_stay : {B D : Type 0} (bay_seen : B → BayView D) (seen : D → DiskView) (Fed : Type 0) (fault : CoreOpen) (old new : B) → (Fed → IsOfDevice fault)
     → TellsStill bay_seen old new → ((name : List ℕ) → StaysAs bay_seen seen (IsOfDevice fault) name old new)
-    → (IsOfDevice fault → (bay_seen new).starved ≡ false) → DisksStay bay_seen seen Fed old new
+    → (IsOfDevice fault → (bay_seen new).starved ≡ false) → DisksStay (bay_change bay_seen seen old new) Fed
 disks_stay bay_seen seen Fed fault old new why told stays fed = record {
   told = told;
   stays = λ name d e was is.

@@ -26,7 +26,7 @@ use Rattle.topic_conf.specs.Topics.{IsTopic, partitions}
 use Rattle.topic_conf.proofs.Lists.{partitions_cons, all_front, all_others}
 use Rattle.share_top.specs.declared.status.Status.{Status}
 use Rattle.share_top.specs.declared.status.Status.TheVariants.{Done, Usage, Malformed, ReadFault, WriteFault, Damaged, Device, NoMemory, Listener, Spawner}
-use Rattle.share_top.specs.Changes.{InputChange, OutputChange}
+use Rattle.share_top.specs.Changes.{InputChange, OutputChange, bay_change}
 use Rattle.share_top.specs.Sessions.{WritesFrontOf}
 use Rattle.share_top.specs.Loading.{LoadEnding, RoomEnding, HasNoRoomIn, IsWhole, IsRefusedSegment, IsBegunSegment, WithLine, WithPlace, IsLoaded, IsNotLoaded, IsLogDisk, OverDisk, IsStored, StoresIn, StaysIn, DamagesIn, DiskCountRose, FailsWithMemory}
 use Rattle.share_top.specs.Loads.{IsGrown, IsLogRefusal, LacksRoom}
@@ -135,13 +135,13 @@ some_told (Some c) e = (c, refl)
 module _ {B D : Type 0} (bay_seen : B → BayView D) (seen : D → DiskView)
     (name : List ℕ) (old mid new : B) where
   -- the bay gave no disk
-  pub stays_there : (bay_seen new).disk name ≡ (bay_seen old).disk name → StaysIn bay_seen seen name old new
+  pub stays_there : (bay_seen new).disk name ≡ (bay_seen old).disk name → StaysIn (bay_change bay_seen seen old new) name
   stays_there same d c is has = (d, c, same ∙ is, has, λ x on. (x, on, inl refl))
 
   module _ (first last : D) (given : IsAsTold ((bay_seen old).disk name) first) (told : is_some ((bay_seen mid).disk name) ≡ is_some ((bay_seen old).disk name))
       (there : Holds ((bay_seen mid).disk name) ((bay_seen new).disk name) last) (tells : is_some (seen last).content ≡ is_some (seen first).content) where
     over : (P : D → List ℕ → D → List ℕ → Type 0) → ((c left : List ℕ) → (seen first).content ≡ Some c → (seen last).content ≡ Some left → P first c last left)
-        → OverDisk bay_seen seen name old new P
+        → OverDisk (bay_change bay_seen seen old new) name P
     over P f d c is has =
         let e : first ≡ d = given d is in
         let first_has : (seen first).content ≡ Some c = ap (λ d. (seen d).content) e ∙ has in
@@ -149,13 +149,13 @@ module _ {B D : Type 0} (bay_seen : B → BayView D) (seen : D → DiskView)
         (last, left.0, there (told ∙ ap is_some is), left.1, subst (λ (x : D). P x c last left.0) e (f c left.0 first_has left.1))
 
     pub stays : ((d : D) (t : ℕ) (c : List ℕ) → t ≤ (seen d).moment → (seen d).image c → (seen d).since t c)
-        → LeavesOnly seen first last (StandsAs (seen first).image) → StaysIn bay_seen seen name old new
+        → LeavesOnly seen first last (StandsAs (seen first).image) → StaysIn (bay_change bay_seen seen old new) name
     stays counts l = over (λ d c e left. (x : List ℕ) → (seen e).image x → StandsAs (seen d).image x)
         (λ c left is has x on. l.each x (counts last (seen first).moment x l.later on))
 
     pub stores : ((d : D) (c : List ℕ) → (seen d).content ≡ Some c → (seen d).image c) → (opened new_log : LogParts D) → last ≡ new_log.journal.disk
         → ((c : List ℕ) → (seen first).content ≡ Some c → IsLogText c (log_in opened))
-        → (log : Log) (batches : List Batch) (pending : Option Batch) → IsGrown seen opened new_log log batches pending → StoresIn bay_seen seen name old new log batches pending
+        → (log : Log) (batches : List Batch) (pending : Option Batch) → IsGrown seen opened new_log log batches pending → StoresIn (bay_change bay_seen seen old new) name log batches pending
     stores read opened new_log at opens log batches pending h = over (λ d c e left. IsStored seen log batches pending c e left)
         (λ c left is has. record {
           before = subst (IsLogText c) (sym h.was) (opens c is);
@@ -166,11 +166,11 @@ module _ {B D : Type 0} (bay_seen : B → BayView D) (seen : D → DiskView)
     pub lacks : (opened : LogParts D) → KeepsLog seen opened None
         → ((c : List ℕ) → (seen first).content ≡ Some c → IsLogText c (log_in opened))
         → ((c : List ℕ) (frames : List (List ℕ)) → (seen first).content ≡ Some c → StandsFor c frames → opened.journal.end ≡ length (blocks frames) + 1)
-        → (log : Log) (batches : List Batch) (next : Batch) (at : ℕ) → LacksRoom opened log batches next at → HasNoRoomIn bay_seen seen name old log batches next at
+        → (log : Log) (batches : List Batch) (next : Batch) (at : ℕ) → LacksRoom opened log batches next at → HasNoRoomIn (bay_change bay_seen seen old new) name log batches next at
     lacks opened kept opens ends log batches next at h = by (seen first).content refl where
       with_these : (writes : List LogWrite) → Lead no_log writes (log_in opened) → opened.journal.end ≡ length (blocks (frames_of writes)) + 1
           → ((d : D) (c : List ℕ) → (bay_seen old).disk name ≡ Some d → (seen d).content ≡ Some c → StandsFor c (frames_of writes))
-          → HasNoRoomIn bay_seen seen name old log batches next at
+          → HasNoRoomIn (bay_change bay_seen seen old new) name log batches next at
       with_these writes leads end on_disk =
           let more = frames_of (map Adds batches) in
           let sum : length (blocks (frames_of (writes ++ map Adds batches))) ≡ length (blocks (frames_of writes)) + length (blocks (frames_of (map Adds batches))) =
@@ -184,7 +184,7 @@ module _ {B D : Type 0} (bay_seen : B → BayView D) (seen : D → DiskView)
             on_disk = on_disk;
           }
 
-      by : (o : Option (List ℕ)) → (seen first).content ≡ o → HasNoRoomIn bay_seen seen name old log batches next at
+      by : (o : Option (List ℕ)) → (seen first).content ≡ o → HasNoRoomIn (bay_change bay_seen seen old new) name log batches next at
       by (Some c) is =
           let text = opens c is in
           with_these text.writes text.leads (ends c (frames_of text.writes) is text.frames)
@@ -197,12 +197,12 @@ module _ {B D : Type 0} (bay_seen : B → BayView D) (seen : D → DiskView)
 
   pub damages : (first : D) → IsAsTold ((bay_seen old).disk name) first → (fault : OpenFault)
       → ((place : ℕ) → fault ≡ open_fault.Damaged place → (c : List ℕ) → (seen first).content ≡ Some c → IsNoLogText c place)
-      → (place : ℕ) → fault ≡ open_fault.Damaged place → DamagesIn bay_seen seen name old place
+      → (place : ℕ) → fault ≡ open_fault.Damaged place → DamagesIn (bay_change bay_seen seen old new) name place
   damages first given fault f place is d c told has = f place is c (ap (λ d. (seen d).content) (given d told) ∙ has)
 
   -- the count of the disk rose, and so did the bay's, unless the disk's stood at its last value
   pub rises : (first : D) (taken after : ℕ) → (bay_seen new).taken name ≡ taken → taken ≡ (seen first).faults → (bay_seen old).faults ≤ (bay_seen mid).faults
-      → (bay_seen new).faults ≡ min ((bay_seen mid).faults + (after - taken)) (2 ^ 64 - 1) → Rose (seen first).faults after → DiskCountRose bay_seen name old new
+      → (bay_seen new).faults ≡ min ((bay_seen mid).faults + (after - taken)) (2 ^ 64 - 1) → Rose (seen first).faults after → DiskCountRose (bay_change bay_seen seen old new) name
   rises first taken after kept noted later sum rose = ⊎_elim
       (λ lt. inl (let r : Rose (bay_seen old).faults (bay_seen new).faults = omega (arith, lt, noted, later, sum, rose) in r))
       (λ le. inr (let l : 2 ^ 64 - 1 ≤ (bay_seen new).taken name = omega (arith, kept, noted, le) in l))
@@ -210,8 +210,8 @@ module _ {B D : Type 0} (bay_seen : B → BayView D) (seen : D → DiskView)
 
   -- and memory was found
   pub with_memory : (last : D) (starved : Bool) → is_some ((bay_seen mid).disk name) ≡ is_some ((bay_seen old).disk name)
-      → Holds ((bay_seen mid).disk name) ((bay_seen new).disk name) last → DiskCountRose bay_seen name old new → (seen last).starved ≡ false → starved ≡ false
-      → (bay_seen new).starved ≡ starved → FailsWithMemory bay_seen seen name old new
+      → Holds ((bay_seen mid).disk name) ((bay_seen new).disk name) last → DiskCountRose (bay_change bay_seen seen old new) name → (seen last).starved ≡ false → starved ≡ false
+      → (bay_seen new).starved ≡ starved → FailsWithMemory (bay_change bay_seen seen old new) name
   with_memory last starved told there rose fed bay_fed same = record {
     rose = rose;
     disk = λ d e was is s.
@@ -219,7 +219,7 @@ module _ {B D : Type 0} (bay_seen : B → BayView D) (seen : D → DiskView)
         let one : Some e ≡ Some last = sym is ∙ at in
         let only : e ≡ last = cc in
         absurd (let bad : false ≡ true = sym fed ∙ ap (λ (x : D). (seen x).starved) (sym only) ∙ s in cc);
-    bay = same ∙ bay_fed;
+    fed = same ∙ bay_fed;
   }
 
 -- neither the bay nor the disk has found no memory

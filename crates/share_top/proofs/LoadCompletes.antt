@@ -14,14 +14,12 @@ use Rattle.part_log.proofs.FrameReads.{text_sound}
 use Rattle.part_log.proofs.Keeping.{logs_once}
 use Rattle.share_top.specs.declared.status.Status.{Status}
 use Rattle.share_top.specs.declared.status.Status.TheVariants.{Done, Usage, Malformed, ReadFault, WriteFault, Damaged, Device, NoMemory, Listener, Spawner}
-use Rattle.share_top.specs.Changes.{InputChange, OutputChange}
+use Rattle.share_top.specs.Changes.{BayChange, InputChange, OutputChange}
 use Rattle.share_top.specs.Segments.{IsSegment, IsRefused, HasNoBatch, HasOneReading, segment_of}
 use Rattle.share_top.specs.Loading.{IsLoad}
-use Rattle.share_top.specs.Statuses.{status_number}
 use Rattle.share_top.proofs.LoadSteps.{sized}
 use Rattle.share_top.proofs.SegmentReads.{front_size, same_size}
 use Rattle.share_top.proofs.LoadRuns.{some_then}
-use Rattle.edge_io.specs.Views.{DiskView, BayView}
 
 -- ---- a log and batches behind it
 
@@ -101,37 +99,38 @@ none_refused text log batches others s r =
 
 -- ---- a load ends so
 
-module _ {B D : Type 0} (bay_seen : B → BayView D) (seen : D → DiskView)
-    (name : List ℕ) (old new : B) (input : InputChange) (output : OutputChange)
-    (d : D) (c : List ℕ) (log : Log) (batches : List Batch) (told : (bay_seen old).disk name ≡ Some d) (has : (seen d).content ≡ Some c) (text : IsLogText c log) where
-  abbrev Whole : ℕ → Type 0
-  Whole number = IfSome input.left (λ text. IsSegment text log.batches batches → (number ≡ 0) ⊎ ((number ≡ 7) ⊎ (number ≡ 8)))
+module _ {B D : Type 0} (bay : BayChange B D) (name : List ℕ) (input : InputChange) (output : OutputChange)
+    (d : D) (c : List ℕ) (log : Log) (batches : List Batch) (told : (bay.seen bay.old).disk name ≡ Some d) (has : (bay.disk_seen d).content ≡ Some c) (text : IsLogText c log) where
+  abbrev Ends : Status → Type 0
+  Ends status = (status ≡ Done) ⊎ ((status ≡ Device) ⊎ (status ≡ NoMemory))
 
-  always : (left : Option (List ℕ)) (number : ℕ) → (number ≡ 0) ⊎ ((number ≡ 7) ⊎ (number ≡ 8))
-      → IfSome left (λ text. IsSegment text log.batches batches → (number ≡ 0) ⊎ ((number ≡ 7) ⊎ (number ≡ 8)))
-  always None number h = tt
-  always (Some text) number h = λ s. h
+  abbrev Whole : Status → Type 0
+  Whole status = IfSome input.left (λ text. IsSegment text log.batches batches → Ends status)
 
-  pub completes : (number : ℕ) (status : Status) → number ≡ status_number status → IsLoad bay_seen seen name old new input output status
-      → (Rose input.faults input.faults_after → ⊥) → (Rose output.faults output.faults_after → ⊥) → Whole number
-  completes number Done is e read write = always input.left number (inl is)
-  completes number Device is e read write = always input.left number (inr (inl is))
-  completes number NoMemory is e read write = always input.left number (inr (inr is))
-  completes number Usage is (inl e) read write = absurd e
-  completes number Usage is (inr e) read write = absurd e.2
-  completes number Listener is (inl e) read write = absurd e
-  completes number Listener is (inr e) read write = absurd e.2
-  completes number Spawner is (inl e) read write = absurd e
-  completes number Spawner is (inr e) read write = absurd e.2
-  completes number Malformed is (inl e) read write =
+  always : (left : Option (List ℕ)) (status : Status) → Ends status → IfSome left (λ text. IsSegment text log.batches batches → Ends status)
+  always None status h = tt
+  always (Some text) status h = λ s. h
+
+  pub completes : (status : Status) → IsLoad bay name input output status
+      → (Rose input.faults input.faults_after → ⊥) → (Rose output.faults output.faults_after → ⊥) → Whole status
+  completes Done e read write = always input.left Done (inl refl)
+  completes Device e read write = always input.left Device (inr (inl refl))
+  completes NoMemory e read write = always input.left NoMemory (inr (inr refl))
+  completes Usage (inl e) read write = absurd e
+  completes Usage (inr e) read write = absurd e.2
+  completes Listener (inl e) read write = absurd e
+  completes Listener (inr e) read write = absurd e.2
+  completes Spawner (inl e) read write = absurd e
+  completes Spawner (inr e) read write = absurd e.2
+  completes Malformed (inl e) read write =
       let over = e.ends.0 d c told has in
       let same : e.log ≡ log = logs_once c e.log log over.4.before text in
-      some_then input.left (λ text. IsRefused text e.log.batches e.batches) (λ text. IsSegment text log.batches batches → (number ≡ 0) ⊎ ((number ≡ 7) ⊎ (number ≡ 8)))
+      some_then input.left (λ text. IsRefused text e.log.batches e.batches) (λ text. IsSegment text log.batches batches → Ends Malformed)
       (λ text r s. absurd (none_refused text log.batches batches e.batches s (subst (λ (l : Log). IsRefused text l.batches e.batches) same r))) e.refused
-  completes number Malformed is (inr e) read write = absurd e.2
-  completes number ReadFault is (inl e) read write = absurd (read e.0)
-  completes number ReadFault is (inr e) read write = absurd e.2
-  completes number WriteFault is (inl e) read write = absurd (write e.0)
-  completes number WriteFault is (inr e) read write = absurd (write e.2.0)
-  completes number Damaged is (inl e) read write = absurd e
-  completes number Damaged is (inr e) read write = absurd (text_sound c log e.2.0 text (e.2.1 d c told has))
+  completes Malformed (inr e) read write = absurd e.2
+  completes ReadFault (inl e) read write = absurd (read e.0)
+  completes ReadFault (inr e) read write = absurd e.2
+  completes WriteFault (inl e) read write = absurd (write e.0)
+  completes WriteFault (inr e) read write = absurd (write e.2.0)
+  completes Damaged (inl e) read write = absurd e
+  completes Damaged (inr e) read write = absurd (text_sound c log e.2.0 text (e.2.1 d c told has))

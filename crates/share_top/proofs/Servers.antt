@@ -1,33 +1,32 @@
 -- What a server does: it was refused, or its links were served to an end.
-use Rattle.std.proofs.Common.{◌≡◌, ◌≢◌, ◌⊎◌, inl, inr, refl, sym, subst, ◌∙◌, ℕ, List, [], String, Global, arith}
-use Rattle.std.specs.Io.KnownBytes.{Keeps}
+use Rattle.std.proofs.Common.{◌≡◌, ◌≢◌, ◌⊎◌, inl, inr, refl, sym, subst, ◌∙◌, ℕ, List, [], String, Global}
 use Rattle.edge_io.specs.Bays.{IsSound}
 use Rattle.edge_io.specs.Causes.{Rose}
 use Rattle.edge_io.specs.Views.{DiskView, BayView}
-use Rattle.topic_conf.specs.Configs.{ConfigParts}
+use Rattle.broker_model.specs.Hosted.{IsTaken}
 use Rattle.broker_core.specs.Bays.{AreOut, TellsStill}
 use Rattle.broker_core.specs.declared.fault.CoreOpen.{CoreOpen}
 use Rattle.broker_core.specs.declared.fault.CoreOpen.TheVariants as open_fault
 use Rattle.broker_run.specs.Homes.{HasLinksEnd}
-use Rattle.broker_run.specs.Opening.{IsRefused}
+use Rattle.broker_locks.specs.Opening.{IsRefused}
 use Rattle.broker_run.specs.Server.{Serves}
-use Rattle.broker_run.specs.Shared.{PassesParts, SharedParts}
 use Rattle.broker_run.specs.declared.jobs.LinksEnd.{LinksEnd}
 use Rattle.broker_run.specs.declared.jobs.LinksEnd.TheVariants as links
 use Rattle.share_top.specs.declared.status.Status.{Status}
 use Rattle.share_top.specs.declared.status.Status.TheVariants.{Done, Usage, Malformed, ReadFault, WriteFault, Damaged, Device, NoMemory, Listener, Spawner}
+use Rattle.share_top.specs.declared.words.Words.TheVariants.{Serve}
 use Rattle.share_top.specs.declared.words.address.Address.{Address}
 use Rattle.share_top.specs.declared.words.server.ServeWords.{ServeWords}
-use Rattle.share_top.specs.Changes.{InputChange, OutputChange}
+use Rattle.share_top.specs.Apart.{LeavesOthers}
+use Rattle.share_top.specs.Changes.{BayChange, Call, ListenerChange, OutputChange, ServerChange, SpawnerChange, bay_change}
+use Rattle.share_top.specs.Commands.{Does}
 use Rattle.share_top.specs.Going.{IsRefusal}
 use Rattle.share_top.specs.Loading.{NoneIsOut}
-use Rattle.share_top.specs.Servers.{DoesServe, HasServeCause, IsServe, ListenerChange, ServesLinks, ServesTo, SpawnerChange}
+use Rattle.share_top.specs.Servers.{HasServeCause, IsServe, ServesLinks, ServesTo}
 use Rattle.share_top.specs.Sessions.{CountRose, HoldsStates}
 use Rattle.share_top.specs.Statuses.{DisksStay, status_number}
 use Rattle.share_top.specs.Words.{AreOfServe, AreServeWords, texts}
-use Rattle.share_top.proofs.Completes.{not_seven}
 use Rattle.share_top.proofs.Ends.{disks_stay, not_opened, refusal_damaged, refusal_device}
-use Rattle.share_top.proofs.ServerWords.{one_serve}
 
 pub none_is_out : {B D : Type 0} (bay_seen : B → BayView D) (bay : B) → AreOut bay_seen [] bay → NoneIsOut bay_seen bay
 none_is_out bay_seen bay out name = out.others name tt
@@ -75,24 +74,27 @@ of_device : (fault : CoreOpen) (output : OutputChange) (status : Status) → IsR
     → (fault ≡ open_fault.Device) ⊎ (fault ≡ open_fault.Bay)
 of_device fault output status r is = (subst (λ (s : Status). IsRefusal fault output s) is r).0
 
-module _ {B D : Type 0} (bay_seen : B → BayView D) (seen : D → DiskView) (Worked : SharedParts D → PassesParts D → Type 0)
-    (old new : B) (serve : ServeWords) (output : OutputChange)
-    (listener : ListenerChange) (spawner : SpawnerChange) (status : Status) where
-  pub served : (end : LinksEnd) → output.Same → Serves bay_seen seen Worked serve.conf old new
-      → HasLinksEnd end serve.accept listener.given listener.given_after listener.done listener.faults listener.faults_after spawner.faults spawner.faults_after
-      → ServesTo end status → IsServe bay_seen seen Worked old new serve output listener spawner status
-  served end same serves has to = inl (same, serves, caused end serve.accept listener spawner status has to)
+module _ {B D : Type 0} (bay_seen : B → BayView D) (seen : D → DiskView) (old new : B) (serve : ServeWords) (output : OutputChange)
+    (server : ServerChange D) (status : Status) where
+  abbrev Bay : BayChange B D
+  Bay = bay_change bay_seen seen old new
+
+  pub served : (end : LinksEnd) → output.Same → Serves bay_seen seen server.Worked serve.conf old new
+      → HasLinksEnd end serve.accept server.listener.given server.listener.given_after server.listener.done server.listener.faults server.listener.faults_after
+      server.spawner.faults server.spawner.faults_after
+      → ServesTo end status → IsServe Bay output server serve status
+  served end same serves has to = inl (same, serves, caused end serve.accept server.listener server.spawner status has to)
 
   module _ (fault : CoreOpen) (refused : IsRefused bay_seen seen serve.conf old fault new) (r : IsRefusal fault output status) where
-    rises : (fault ≡ open_fault.Device) ⊎ (fault ≡ open_fault.Bay) → CountRose bay_seen seen serve.conf old new
+    rises : (fault ≡ open_fault.Device) ⊎ (fault ≡ open_fault.Bay) → CountRose Bay serve.conf
     rises (inl e) = refused.device e
     rises (inr e) = inl (refused.bay e)
 
-    stay : TellsStill bay_seen old new → status ≢ NoMemory → DisksStay bay_seen seen (status ≡ Device) old new
+    stay : TellsStill bay_seen old new → status ≢ NoMemory → DisksStay Bay (status ≡ Device)
     stay told known = disks_stay bay_seen seen (status ≡ Device) fault old new (refusal_device fault output status r) told
         (refused.stays (fault_known fault output status r known)) refused.fed
 
-    pub unserved : TellsStill bay_seen old new → listener.Same → spawner.Same → IsServe bay_seen seen Worked old new serve output listener spawner status
+    pub unserved : TellsStill bay_seen old new → server.listener.Same → server.spawner.Same → IsServe Bay output server serve status
     unserved told no_link no_job = inr (
       no_link,
       no_job,
@@ -103,7 +105,7 @@ module _ {B D : Type 0} (bay_seen : B → BayView D) (seen : D → DiskView) (Wo
     pub unserved_back : status ≢ NoMemory → NoneIsOut bay_seen new
     unserved_back known = none_is_out bay_seen new (refused.back (fault_known fault output status r known))
 
-    pub unserved_whole : HoldsStates bay_seen seen serve.conf old → status ≢ Damaged
+    pub unserved_whole : HoldsStates Bay serve.conf → status ≢ Damaged
     unserved_whole told is =
         let d = refusal_damaged fault output status r is in
         refused.recovers told.0 told.1 told.2 told.3 d.0 d.1 d.2
@@ -114,82 +116,44 @@ module _ {B D : Type 0} (bay_seen : B → BayView D) (seen : D → DiskView) (Wo
       go (inl e) = (refused.sound sound).1 e
       go (inr e) = (refused.sound sound).0 e
 
--- ---- the status
+-- ---- what a server does, as one record
 
-module _ {B D : Type 0} (bay_seen : B → BayView D) (seen : D → DiskView) (Worked : SharedParts D → PassesParts D → Type 0)
-    (old new : B) (serve : ServeWords) (output : OutputChange)
-    (listener : ListenerChange) (spawner : SpawnerChange) (no_link : Rose listener.faults listener.faults_after → ⊥)
-    (no_job : Rose spawner.faults spawner.faults_after → ⊥) (no_output : Rose output.faults output.faults_after → ⊥) where
-  completes : (status : Status) → IsServe bay_seen seen Worked old new serve output listener spawner status → status ≢ Damaged
-      → (status_number status ≡ 0) ⊎ ((status_number status ≡ 8) ⊎ ((status_number status ≡ 7) × CountRose bay_seen seen serve.conf old new))
-  completes Done d whole = inl refl
-  completes NoMemory d whole = inr (inl refl)
-  completes Damaged d whole = absurd (whole refl)
-  completes Device (inl d) whole = absurd d.2
-  completes Device (inr d) whole = inr (inr (refl, d.3.0))
-  completes WriteFault (inl d) whole = absurd d.2
-  completes WriteFault (inr d) whole = absurd (no_output d.3.0)
-  completes Listener (inl d) whole = absurd (no_link d.2)
-  completes Listener (inr d) whole = absurd d.3
-  completes Spawner (inl d) whole = absurd (no_job d.2.1)
-  completes Spawner (inr d) whole = absurd d.3
-  completes Usage (inl d) whole = absurd d.2
-  completes Usage (inr d) whole = absurd d.3
-  completes Malformed (inl d) whole = absurd d.2
-  completes Malformed (inr d) whole = absurd d.3
-  completes ReadFault (inl d) whole = absurd d.2
-  completes ReadFault (inr d) whole = absurd d.3
+module _ {B D : Type 0} (bay : BayChange B D) (output : OutputChange) (server : ServerChange D) (serve : ServeWords) where
+  completes : (Rose server.listener.faults server.listener.faults_after → ⊥) → (Rose server.spawner.faults server.spawner.faults_after → ⊥)
+      → (Rose output.faults output.faults_after → ⊥) → (status : Status) → IsServe bay output server serve status → status ≢ Damaged
+      → (status ≡ Done) ⊎ ((status ≡ NoMemory) ⊎ ((status ≡ Device) × CountRose bay serve.conf))
+  completes no_link no_job no_output Done d whole = inl refl
+  completes no_link no_job no_output NoMemory d whole = inr (inl refl)
+  completes no_link no_job no_output Damaged d whole = absurd (whole refl)
+  completes no_link no_job no_output Device (inl d) whole = absurd d.2
+  completes no_link no_job no_output Device (inr d) whole = inr (inr (refl, d.3.0))
+  completes no_link no_job no_output WriteFault (inl d) whole = absurd d.2
+  completes no_link no_job no_output WriteFault (inr d) whole = absurd (no_output d.3.0)
+  completes no_link no_job no_output Listener (inl d) whole = absurd (no_link d.2)
+  completes no_link no_job no_output Listener (inr d) whole = absurd d.3
+  completes no_link no_job no_output Spawner (inl d) whole = absurd (no_job d.2.1)
+  completes no_link no_job no_output Spawner (inr d) whole = absurd d.3
+  completes no_link no_job no_output Usage (inl d) whole = absurd d.2
+  completes no_link no_job no_output Usage (inr d) whole = absurd d.3
+  completes no_link no_job no_output Malformed (inl d) whole = absurd d.2
+  completes no_link no_job no_output Malformed (inr d) whole = absurd d.3
+  completes no_link no_job no_output ReadFault (inl d) whole = absurd d.2
+  completes no_link no_job no_output ReadFault (inr d) whole = absurd d.3
 
-module _ {B D : Type 0} (bay_seen : B → BayView D) (seen : D → DiskView) (Worked : SharedParts D → PassesParts D → Type 0)
-    (old new : B) (words : List (String Global))
-    (input : InputChange) (output : OutputChange) (listener : ListenerChange) (spawner : SpawnerChange) (number : ℕ) where
-  abbrev Does : Type 0
-  Does = DoesServe bay_seen seen Worked old new words input output listener spawner number
-
-  abbrev Links : ServeWords → Type 0
-  Links serve = ServesLinks bay_seen seen Worked old new serve input output listener spawner number
-
-  module _ (listen : Address) (serve : ServeWords) (found : AreServeWords (texts words) listen serve) (status : Status) (is : number ≡ status_number status)
-      (ends : IsServe bay_seen seen Worked old new serve output listener spawner status) (unread : input.Same)
-      (recovers : HoldsStates bay_seen seen serve.conf old → status ≢ Damaged) (sound : IsSound bay_seen seen old → status ≢ Device) where
-    links_served : Links serve
-    links_served = record {
-      status = status;
-      is = is;
-      ends = ends;
-      unread = unread;
-      sound = λ s e. not_seven status (sound s) (sym is ∙ e);
-      complete = λ told no_link no_job no_output.
-          subst (λ (n : ℕ). (n ≡ 0) ⊎ ((n ≡ 8) ⊎ ((n ≡ 7) × CountRose bay_seen seen serve.conf old new))) (sym is)
-          (completes bay_seen seen Worked old new serve output listener spawner no_link no_job no_output status ends (recovers told));
-    }
-
-    pub does_serve : Does
-    does_serve = record {
-      serves = λ other s p. subst Links (one_serve (texts words) listen other serve s found p).1 links_served;
-      alone = λ none. absurd (none (listen, serve, found));
-    }
-
-  -- the words aren't those of a server
-  pub does_alone : (AreOfServe words → ⊥) → listener.Same → spawner.Same → Does
-  does_alone none no_link no_job = record {
-    serves = λ listen serve p. absurd (none (listen, serve, p));
-    alone = λ _. (no_link, no_job);
+  pub serves_links : (status : Status) → IsServe bay output server serve status → (HoldsStates bay serve.conf → status ≢ Damaged)
+      → (IsSound bay.seen bay.disk_seen bay.old → status ≢ Device) → LeavesOthers bay (IsTaken serve.conf) → ServesLinks bay output server serve status
+  serves_links status ends recovers sound others = record {
+    ends = ends;
+    sound = sound;
+    complete = λ told no_link no_job no_output. completes no_link no_job no_output status ends (recovers told);
+    others = others;
   }
 
-  not_seven_here : number ≡ 8 → number ≢ 7
-  not_seven_here is e = omega (arith, is, e)
+-- the words are those of a server
+pub does_serve : {B D : Type 0} (call : Call B D) (listen : Address) (serve : ServeWords) → AreServeWords (texts call.words) listen serve → (status : Status)
+    → call.number ≡ status_number status → call.input.Same → ServesLinks call.bay call.output call.server serve status → Does call
+does_serve call listen serve found status is unread serves = inr (Serve listen serve, status, found, is, (unread, serves))
 
-  -- no memory was found for the words
-  pub hungry_serve : number ≡ 8 → input.Same → Keeps output.held output.held_after → listener.Same → spawner.Same → Does
-  hungry_serve is unread kept no_link no_job = record {
-    serves = λ listen serve p. record {
-      status = NoMemory;
-      is = is;
-      ends = inr (no_link, no_job, λ known. absurd (known refl), kept);
-      unread = unread;
-      sound = λ s. not_seven_here is;
-      complete = λ told quiet calm still. inr (inl is);
-    };
-    alone = λ _. (no_link, no_job);
-  }
+pub none_alone : {X : Type 0} (words : List (String Global)) (listen : Address) (serve : ServeWords) → AreServeWords (texts words) listen serve
+    → (AreOfServe words → ⊥) → X
+none_alone words listen serve found none = absurd (none (listen, serve, found))

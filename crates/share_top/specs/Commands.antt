@@ -1,39 +1,42 @@
--- What a command does, as one record: what its status says, and what is left of the disks (this project's own).
--- For example a `replay` over a first disk that isn't store text has status 6, and each disk of the bay is as it was.
-use Rattle.std.specs.Prelude.{◌≡◌, ◌≢◌, ◌⊎◌, ℕ, List, String}
-use Rattle.std.specs.declared.alloc.Global.{Global}
-use Rattle.edge_io.specs.Bays.{IsSound}
-use Rattle.edge_io.specs.Views.{DiskView, BayView}
-use Rattle.share_top.specs.Apart.{LeavesOthers, LoadRuns}
-use Rattle.share_top.specs.Changes.{InputChange, OutputChange}
-use Rattle.topic_conf.specs.Configs.{ConfigParts}
+-- What a call of the program does: nothing, or what the command of its words does (this project's own).
+-- For example a `replay` over a first disk that isn't store text has status 6, and each disk of the bay is
+-- as it was; and `replay` with no topic has status 2.
+use Rattle.std.specs.Prelude.{◌≡◌, ◌⊎◌}
+use Rattle.share_top.specs.declared.status.Status.{Status}
+use Rattle.share_top.specs.declared.words.Words.{Words}
+use Rattle.share_top.specs.declared.words.Words.TheVariants.{Replay, Load, DumpState, Gen, Serve}
+use Rattle.share_top.specs.Changes.{Call}
 use Rattle.share_top.specs.Dumping.{DumpsState}
 use Rattle.share_top.specs.Generating.{Generates}
-use Rattle.share_top.specs.Words.{AreDumpStateWords, AreGenWords, texts}
-use Rattle.share_top.specs.Loading.{LoadCompletes, LoadsWith}
-use Rattle.share_top.specs.Statuses.{AreOfReplay, Completes, EndsWith, HasNoCommand}
+use Rattle.share_top.specs.Loading.{LoadsSegment}
+use Rattle.share_top.specs.Replaying.{ReplaysScript}
+use Rattle.share_top.specs.Servers.{ServesLinks}
+use Rattle.share_top.specs.Statuses.{status_number}
+use Rattle.share_top.specs.Words.{AreOfCommand, HasNoCommand}
 
-pub record DoesCommand {B D : Type 0} (bay_seen : B → BayView D) (seen : D → DiskView) (old new : B)
-    (words : List (String Global)) (input : InputChange) (output : OutputChange) (number : ℕ) : Type 0 where
-  -- what the status says of the words, of what was read and written, and of the disks
-  pub ends : EndsWith bay_seen seen old new words input output number
-  -- what it says where the words are those of a load: of the segment, of what was written, and of the disk of the log
-  pub loads : LoadsWith bay_seen seen old new words input output number
-  pub usage : HasNoCommand words → (number ≡ 2) ⊎ (number ≡ 8)
-  -- the output's count of faults grows with this status alone
-  pub counted : number ≢ 5 → output.faults_after ≡ output.faults
-  -- over a sound bay no disk fails a replay
-  pub sound : AreOfReplay words → IsSound bay_seen seen old → number ≢ 7
-  -- a disk that isn't the command's is as it was, and a load arms no fault of its disk and loses no power
-  pub others : LeavesOthers bay_seen words old new
-  pub load_runs : LoadRuns bay_seen seen words old new
-  -- where the disks stand for logs and states, and the bay is sound or no count of it and its disks rose, a script is
-  -- done
-  pub complete : Completes bay_seen seen old new words input output number
-  -- where no count rose, a segment whose batches may stand behind the log is loaded, or memory or the log's room ended
-  pub load_completes : LoadCompletes bay_seen seen old new words input output number
-  -- where the words are those of a dump, it writes what the disks stand for, and these stand for it behind it
-  pub dumps : (conf : ConfigParts) → AreDumpStateWords (texts words) conf
-      → DumpsState bay_seen seen old new conf input output number
-  -- where they are those of `gen`, it writes the script of the number
-  pub generates : (n : ℕ) → AreGenWords (texts words) n → Generates n (input.Same × (new ≡ old)) output number
+-- What a command does, and with which status it ends. Only a replay and a load read the input, and
+-- `gen` takes no disk.
+abbrev pub DoesWords : {B D : Type 0} → Call B D → Words → Status → Type 0
+DoesWords call (Replay conf summary) status =
+    ReplaysScript call.bay call.input call.output conf summary status
+DoesWords call (Load conf shard) status =
+    LoadsSegment call.bay call.input call.output conf shard status
+DoesWords call (DumpState conf) status =
+    call.input.Same × DumpsState call.bay call.output conf status
+DoesWords call (Gen n) status =
+    call.input.Same × (call.bay.new ≡ call.bay.old) × Generates call.output n status
+DoesWords call (Serve listen serve) status =
+    call.input.Same × ServesLinks call.bay call.output call.server serve status
+
+-- The words are no command, or no memory was found for them. Nothing that was handed over was
+-- touched.
+pub record DoesNothing {B D : Type 0} (call : Call B D) : Type 0 where
+  pub why : ((call.number ≡ 2) × HasNoCommand call.words) ⊎ (call.number ≡ 8)
+  pub untouched : (call.bay.new ≡ call.bay.old) × call.input.Same × call.output.Same
+  pub unserved : call.server.listener.Same × call.server.spawner.Same
+
+-- It does nothing, or what the command of its words does, and gives the number of its status.
+abbrev pub Does : {B D : Type 0} → Call B D → Type 0
+Does call = DoesNothing call
+    ⊎ ((command : Words) × (status : Status) × AreOfCommand call.words command
+    × (call.number ≡ status_number status) × DoesWords call command status)

@@ -6,7 +6,6 @@ use Rattle.std.specs.List.{flat_map}
 use Rattle.std.specs.Io.KnownBytes.{Appends}
 use Rattle.edge_io.specs.Bays.{IsSound}
 use Rattle.edge_io.specs.Causes.{Rose}
-use Rattle.edge_io.specs.Views.{DiskView, BayView}
 use Rattle.share_model.specs.ForeignRules.{ShareStates}
 use Rattle.topic_conf.specs.Configs.{ConfigParts}
 use Rattle.state_text.specs.Texts.{foreign_text, table_text}
@@ -16,10 +15,11 @@ use Rattle.broker_model.specs.Machine.{Machine, Opening, StandsFor}
 use Rattle.broker_model.specs.Disks.{Disks}
 use Rattle.broker_core.specs.Restarts.{IsOpenedDisk}
 use Rattle.share_top.specs.declared.status.Status.{Status}
-use Rattle.share_top.specs.declared.status.Status.TheVariants.{Done, Usage, Malformed, ReadFault, WriteFault, Damaged, Device, NoMemory, Listener, Spawner}
-use Rattle.share_top.specs.Changes.{InputChange, OutputChange}
+use Rattle.share_top.specs.declared.status.Status.TheVariants.{Done, WriteFault, Device, NoMemory}
+use Rattle.share_top.specs.Apart.{LeavesOthers}
+use Rattle.share_top.specs.Changes.{BayChange, OutputChange}
 use Rattle.share_top.specs.Sessions.{CountRose, HoldsStates, OfBay, OverBay, WritesFrontOf}
-use Rattle.share_top.specs.Statuses.{DisksStay, IsNotOpened, status_number}
+use Rattle.share_top.specs.Statuses.{DisksStay, IsNotOpened}
 
 -- ---- the text
 
@@ -60,37 +60,25 @@ abbrev pub IsWritten : OutputChange → ((List ℕ → Type 0) → Type 0) → S
 IsWritten output Dumped Done = Dumped (Appends output.held output.held_after)
 IsWritten output Dumped WriteFault = Rose output.faults output.faults_after × Dumped (λ text. WritesFrontOf text output)
 IsWritten output Dumped NoMemory = Dumped (λ text. WritesFrontOf text output)
--- the others don't come
-IsWritten output Dumped Usage = ⊥
-IsWritten output Dumped Listener = ⊥
-IsWritten output Dumped Spawner = ⊥
-IsWritten output Dumped Malformed = ⊥
-IsWritten output Dumped ReadFault = ⊥
-IsWritten output Dumped Damaged = ⊥
-IsWritten output Dumped Device = ⊥
+IsWritten output Dumped _ = ⊥
 
--- a dump over the disks of a bay
-abbrev pub IsDump : {B D : Type 0} → (B → BayView D) → (D → DiskView) → B → B → ConfigParts → OutputChange → Status
-    → Type 0
-IsDump bay_seen seen old new conf output status =
-    IsWritten output (λ Says. OverBay bay_seen seen conf old new (IsDumped conf Says)) status
-    ⊎ (DisksStay bay_seen seen (status ≡ Device) old new
-    × IsNotOpened conf output (OfBay bay_seen seen conf old) (CountRose bay_seen seen conf old new) status)
+-- The broker was opened over the disks of the bay, or was not.
+abbrev pub IsDump : {B D : Type 0} → BayChange B D → ConfigParts → OutputChange → Status → Type 0
+IsDump bay conf output status =
+    IsWritten output (λ Says. OverBay bay conf (IsDumped conf Says)) status
+    ⊎ (DisksStay bay (status ≡ Device) × IsNotOpened bay conf output status)
 
--- ---- the program
-
--- The program ends with this number, and nothing was read.
-pub record DumpsState {B D : Type 0} (bay_seen : B → BayView D) (seen : D → DiskView) (old new : B) (conf : ConfigParts)
-    (input : InputChange) (output : OutputChange) (number : ℕ) : Type 0 where
-  pub status : Status
-  pub is : number ≡ status_number status
-  -- or no memory was found for the words, and nothing was written or taken
-  pub dump : IsDump bay_seen seen old new conf output status ⊎ ((status ≡ NoMemory) × output.Same × (new ≡ old))
-  pub unread : input.Same
+-- What a dump does.
+pub record DumpsState {B D : Type 0} (bay : BayChange B D) (output : OutputChange)
+    (conf : ConfigParts) (status : Status) : Type 0 where
+  -- what the status says of what was written, and of the disks
+  pub ends : IsDump bay conf output status
   -- over a sound bay no disk fails it
-  pub sound : IsSound bay_seen seen old → number ≢ 7
-  -- where the disks stand for logs and states, the bay is sound or no count of it and its disks rose, and the output's
-  -- didn't rise, the text is written whole, or no memory was found
-  pub complete : HoldsStates bay_seen seen conf old → IsSound bay_seen seen old
-      ⊎ (CountRose bay_seen seen conf old new → ⊥)
-      → (Rose output.faults output.faults_after → ⊥) → (number ≡ 0) ⊎ (number ≡ 8)
+  pub sound : IsSound bay.seen bay.disk_seen bay.old → status ≢ Device
+  -- where the disks stand for logs and states, the bay is sound or no count of it and its disks
+  -- rose, and the output's didn't, the text is written whole, or no memory was found
+  pub complete : HoldsStates bay conf
+      → IsSound bay.seen bay.disk_seen bay.old ⊎ (CountRose bay conf → ⊥)
+      → (Rose output.faults output.faults_after → ⊥) → (status ≡ Done) ⊎ (status ≡ NoMemory)
+  -- a disk that isn't the broker's is as it was
+  pub others : LeavesOthers bay (IsTaken conf)

@@ -1,9 +1,8 @@
 -- The loading of a segment into the log of one partition (this project's own).
 -- For example a segment of a batch of 69 bytes with base 0 and one of 61 bytes with base 1000000000000 and last delta
 -- 4, loaded into an empty log, ends with status 0 and the line `loaded 2 1000000000005`.
-use Rattle.std.specs.Prelude.{◌≡◌, ◌⊎◌, ◌≤◌, ◌+◌, ◌-◌, ◌^◌, ℕ, List, [], ◌∷◌, ◌++◌, true, false, Some, None, IfSome, String, length, map, codes}
+use Rattle.std.specs.Prelude.{◌≡◌, ◌⊎◌, ◌≤◌, ◌+◌, ◌-◌, ◌^◌, ℕ, List, [], ◌∷◌, ◌++◌, true, false, Some, None, IfSome, length, map, codes}
 use Rattle.std.specs.declared.option.Option.{Option}
-use Rattle.std.specs.declared.alloc.Global.{Global}
 use Rattle.std.specs.Option.{option_map, option_to_list}
 use Rattle.std.specs.Fmt.{decimal}
 use Rattle.std.specs.Io.KnownBytes.{Appends, Keeps, Consumes, IsAtEnd}
@@ -21,12 +20,12 @@ use Rattle.session_script.specs.Output.{malformed_line, damaged_line}
 use Rattle.topic_conf.specs.declared.topic.Topic.{Topic}
 use Rattle.topic_conf.specs.Configs.{ConfigParts}
 use Rattle.share_top.specs.declared.status.Status.{Status}
-use Rattle.share_top.specs.declared.status.Status.TheVariants.{Done, Usage, Malformed, ReadFault, WriteFault, Damaged, Device, NoMemory, Listener, Spawner}
-use Rattle.share_top.specs.Changes.{InputChange, OutputChange}
+use Rattle.share_top.specs.declared.status.Status.TheVariants.{Done, Malformed, ReadFault, WriteFault, Damaged, Device, NoMemory}
+use Rattle.share_top.specs.Apart.{LeavesOthers, RunsDisk}
+use Rattle.share_top.specs.Changes.{BayChange, InputChange, OutputChange}
 use Rattle.share_top.specs.Segments.{Begins, IsSegment, IsRefused, StandWhole, segment_of}
 use Rattle.share_top.specs.Sessions.{WritesFrontOf}
-use Rattle.share_top.specs.Statuses.{status_number}
-use Rattle.share_top.specs.Words.{AreLoadWords, IsPartitionOf, texts}
+use Rattle.share_top.specs.Words.{IsPartitionOf}
 use Rattle.edge_io.specs.Views.{DiskView, BayView}
 
 -- the last line of a load: how many batches were added, and where the log ends
@@ -121,11 +120,7 @@ IsLoaded input output Ends NoRoom Rises WriteFault = Rose output.faults output.f
 IsLoaded input output Ends NoRoom Rises Device = Keeps output.held output.held_after
     × ((Rises × IsBegunSegment input Ends) ⊎ IsFullSegment input Ends NoRoom)
 IsLoaded input output Ends NoRoom Rises NoMemory = Keeps output.held output.held_after × IsBegunSegment input Ends
--- the others don't come
-IsLoaded input output Ends NoRoom Rises Damaged = ⊥
-IsLoaded input output Ends NoRoom Rises Usage = ⊥
-IsLoaded input output Ends NoRoom Rises Listener = ⊥
-IsLoaded input output Ends NoRoom Rises Spawner = ⊥
+IsLoaded input output Ends NoRoom Rises _ = ⊥
 
 -- The log was not opened. `Damages` says of a place that the content of the disk isn't a log's, by this place.
 abbrev pub IsNotLoaded : OutputChange → List ℕ → (ℕ → Type 0) → Type 0 → Status → Type 0
@@ -137,13 +132,7 @@ IsNotLoaded output disk Damages Rises WriteFault = Rose output.faults output.fau
 -- nothing was written
 IsNotLoaded output disk Damages Rises Device = Rises × Keeps output.held output.held_after
 IsNotLoaded output disk Damages Rises NoMemory = Keeps output.held output.held_after
--- the others don't come
-IsNotLoaded output disk Damages Rises Done = ⊥
-IsNotLoaded output disk Damages Rises Usage = ⊥
-IsNotLoaded output disk Damages Rises Listener = ⊥
-IsNotLoaded output disk Damages Rises Spawner = ⊥
-IsNotLoaded output disk Damages Rises Malformed = ⊥
-IsNotLoaded output disk Damages Rises ReadFault = ⊥
+IsNotLoaded output disk Damages Rises _ = ⊥
 
 -- no disk of the bay is out
 abbrev pub NoneIsOut : {B D : Type 0} → (B → BayView D) → B → Type 0
@@ -157,11 +146,11 @@ IsLogDisk topics shard name = (topic : Topic) × (number : ℕ) × IsPartitionOf
     × (name ≡ hosted_name topic.name number log_place)
 
 -- where a bay tells the disk of this name, it tells it behind the call as well
-abbrev pub OverDisk : {B D : Type 0} → (B → BayView D) → (D → DiskView) → List ℕ → B → B
-    → (D → List ℕ → D → List ℕ → Type 0) → Type 0
-OverDisk bay_seen seen name old new P = (d : _) (c : List ℕ) → (bay_seen old).disk name ≡ Some d
-    → (seen d).content ≡ Some c →
-    (e : _) × (left : List ℕ) × ((bay_seen new).disk name ≡ Some e) × ((seen e).content ≡ Some left) × P d c e left
+abbrev pub OverDisk : {B D : Type 0} → BayChange B D → List ℕ → (D → List ℕ → D → List ℕ → Type 0)
+    → Type 0
+OverDisk bay name P = (d : _) (c : List ℕ) → (bay.seen bay.old).disk name ≡ Some d
+    → (bay.disk_seen d).content ≡ Some c → (e : _) × (left : List ℕ)
+    × ((bay.seen bay.new).disk name ≡ Some e) × ((bay.disk_seen e).content ≡ Some left) × P d c e left
 
 -- The disk stood for the log. A crash behind the call leaves the log with these batches, with or without the pending
 -- one; so does a read.
@@ -173,74 +162,72 @@ pub record IsStored {D : Type 0} (seen : D → DiskView) (log : Log) (batches : 
       (and_pending (with_batches log batches) (option_map Adds pending))
   pub read : (seen now).image left
 
-abbrev pub StoresIn : {B D : Type 0} → (B → BayView D) → (D → DiskView) → List ℕ → B → B → LoadEnding
-StoresIn bay_seen seen name old new log batches pending =
-    OverDisk bay_seen seen name old new (λ d c e left. IsStored seen log batches pending c e left)
+abbrev pub StoresIn : {B D : Type 0} → BayChange B D → List ℕ → LoadEnding
+StoresIn bay name log batches pending =
+    OverDisk bay name (λ d c e left. IsStored bay.disk_seen log batches pending c e left)
 
--- The log's journal, which has the frames of these writes, has no room for the batch behind them and these batches: the
--- batch's offsets reach 2^62, or its frame would end past 2^62 bytes behind the journal, which ends with a gate, the
--- byte behind the frames. `at` is where the log or the journal ends.
-pub record HasNoRoomIn {B D : Type 0} (bay_seen : B → BayView D) (seen : D → DiskView) (name : List ℕ) (old : B)
-    (log : Log) (batches : List Batch) (next : Batch) (at : ℕ) : Type 0 where
+-- The log's journal, which has the frames of these writes, has no room for the batch behind them and these
+-- batches: the batch's offsets reach 2^62, or its frame would end past 2^62 bytes behind the journal, which
+-- ends with a gate, the byte behind the frames. `at` is where the log or the journal ends.
+pub record HasNoRoomIn {B D : Type 0} (bay : BayChange B D) (name : List ℕ) (log : Log)
+    (batches : List Batch) (next : Batch) (at : ℕ) : Type 0 where
   pub writes : List LogWrite
   pub leads : Lead no_log writes log
-  pub none : HasNoRoomAt (length (blocks (frames_of (writes ++ map Adds batches))) + 1) (log.batches ++ batches) next at
-  pub on_disk : (d : D) (c : List ℕ) → (bay_seen old).disk name ≡ Some d → (seen d).content ≡ Some c →
-      StandsFor c (frames_of writes)
+  pub none : HasNoRoomAt (length (blocks (frames_of (writes ++ map Adds batches))) + 1)
+      (log.batches ++ batches) next at
+  pub on_disk : (d : D) (c : List ℕ) → (bay.seen bay.old).disk name ≡ Some d
+      → (bay.disk_seen d).content ≡ Some c → StandsFor c (frames_of writes)
 
 -- a crash behind the call leaves what one before it might have left, or what stands for the same frames
-abbrev pub StaysIn : {B D : Type 0} → (B → BayView D) → (D → DiskView) → List ℕ → B → B → Type 0
-StaysIn bay_seen seen name old new =
-    OverDisk bay_seen seen name old new (λ d c e left. (x : List ℕ) → (seen e).image x → StandsAs (seen d).image x)
+abbrev pub StaysIn : {B D : Type 0} → BayChange B D → List ℕ → Type 0
+StaysIn bay name = OverDisk bay name (λ d c e left.
+    (x : List ℕ) → (bay.disk_seen e).image x → StandsAs (bay.disk_seen d).image x)
 
 -- the content of the disk isn't a log's, by this place
-abbrev pub DamagesIn : {B D : Type 0} → (B → BayView D) → (D → DiskView) → List ℕ → B → ℕ → Type 0
-DamagesIn bay_seen seen name old place = (d : _) (c : List ℕ) → (bay_seen old).disk name ≡ Some d
-    → (seen d).content ≡ Some c → IsNoLogText c place
+abbrev pub DamagesIn : {B D : Type 0} → BayChange B D → List ℕ → ℕ → Type 0
+DamagesIn bay name place = (d : _) (c : List ℕ) → (bay.seen bay.old).disk name ≡ Some d
+    → (bay.disk_seen d).content ≡ Some c → IsNoLogText c place
 
--- the bay's count of faults rose, in which are those of the disk; or the disk was taken with one at its last value, as
--- the bay notes it
-abbrev pub DiskCountRose : {B D : Type 0} → (B → BayView D) → List ℕ → B → B → Type 0
-DiskCountRose bay_seen name old new = Rose (bay_seen old).faults (bay_seen new).faults
-    ⊎ (2 ^ 64 - 1 ≤ (bay_seen new).taken name)
+-- the bay's count of faults rose, in which are those of the disk; or the disk was taken with one at its last
+-- value, as the bay notes it
+abbrev pub DiskCountRose : {B D : Type 0} → BayChange B D → List ℕ → Type 0
+DiskCountRose bay name = Rose (bay.seen bay.old).faults (bay.seen bay.new).faults
+    ⊎ (2 ^ 64 - 1 ≤ (bay.seen bay.new).taken name)
 
 -- So it did where memory was found: no call on the disk found none, and the bay has found it at each.
-pub record FailsWithMemory {B D : Type 0} (bay_seen : B → BayView D) (seen : D → DiskView) (name : List ℕ)
-    (old new : B) : Type 0 where
-  pub rose : DiskCountRose bay_seen name old new
-  pub disk : (d e : D) → (bay_seen old).disk name ≡ Some d → (bay_seen new).disk name ≡ Some e → (seen e).starved ≡ true
-      → (seen d).starved ≡ true
-  pub bay : (bay_seen new).starved ≡ false
+pub record FailsWithMemory {B D : Type 0} (bay : BayChange B D) (name : List ℕ) : Type 0 where
+  pub rose : DiskCountRose bay name
+  pub disk : (d e : D) → (bay.seen bay.old).disk name ≡ Some d → (bay.seen bay.new).disk name ≡ Some e
+      → (bay.disk_seen e).starved ≡ true → (bay.disk_seen d).starved ≡ true
+  pub fed : (bay.seen bay.new).starved ≡ false
 
--- a load on the disk of this name
-abbrev pub IsLoad : {B D : Type 0} → (B → BayView D) → (D → DiskView)
-    → List ℕ → B → B → InputChange → OutputChange → Status → Type 0
-IsLoad bay_seen seen name old new input output status =
-    IsLoaded input output (StoresIn bay_seen seen name old new) (HasNoRoomIn bay_seen seen name old)
-    (FailsWithMemory bay_seen seen name old new) status
-    ⊎ (input.Same × StaysIn bay_seen seen name old new
-    × IsNotLoaded output name (DamagesIn bay_seen seen name old) (FailsWithMemory bay_seen seen name old new) status)
+-- the log on the disk of this name was opened, or was not and nothing was read
+abbrev pub IsLoad : {B D : Type 0} → BayChange B D → List ℕ → InputChange → OutputChange → Status → Type 0
+IsLoad bay name input output status =
+    IsLoaded input output (StoresIn bay name) (HasNoRoomIn bay name) (FailsWithMemory bay name) status
+    ⊎ (input.Same × StaysIn bay name
+    × IsNotLoaded output name (DamagesIn bay name) (FailsWithMemory bay name) status)
 
--- ---- the program
-
--- Where the words are those of a load, the program ends with this number.
-abbrev pub LoadsWith : {B D : Type 0} → (B → BayView D) → (D → DiskView)
-    → B → B → List (String Global) → InputChange → OutputChange → ℕ → Type 0
-LoadsWith bay_seen seen old new words input output number =
-    (conf : ConfigParts) (shard : ℕ) → AreLoadWords (texts words) conf shard → (status : Status)
-    × (number ≡ status_number status)
-    × (((status ≡ NoMemory) × input.Same × output.Same × (new ≡ old))
-    ⊎ ((name : List ℕ) × IsLogDisk conf.topics shard name × IsLoad bay_seen seen name old new input output status))
-
--- A segment whose batches may stand behind the log is loaded, where no count rose, memory is found and the log has
--- room; it hasn't with 7 alone.
-abbrev pub LoadCompletes : {B D : Type 0} → (B → BayView D) → (D → DiskView)
-    → B → B → List (String Global) → InputChange → OutputChange → ℕ → Type 0
-LoadCompletes bay_seen seen old new words input output number =
-    (conf : ConfigParts) (shard : ℕ) (name : List ℕ) → AreLoadWords (texts words) conf shard
-    → IsLogDisk conf.topics shard name
-    → (DiskCountRose bay_seen name old new → ⊥)
+-- a segment whose batches may stand behind the log is loaded, where no count rose, memory is found and the
+-- log has room; it hasn't with 7 alone
+abbrev pub LoadCompletes : {B D : Type 0} → BayChange B D → List ℕ → InputChange → OutputChange → Status
+    → Type 0
+LoadCompletes bay name input output status = (DiskCountRose bay name → ⊥)
     → (Rose input.faults input.faults_after → ⊥) → (Rose output.faults output.faults_after → ⊥)
-    → (d : _) (c : List ℕ) (log : Log) (batches : List Batch) → (bay_seen old).disk name ≡ Some d → (seen d).content ≡ Some c
-    → IsLogText c log
-    → IfSome input.left (λ text. IsSegment text log.batches batches → (number ≡ 0) ⊎ ((number ≡ 7) ⊎ (number ≡ 8)))
+    → (d : _) (c : List ℕ) (log : Log) (batches : List Batch) → (bay.seen bay.old).disk name ≡ Some d
+    → (bay.disk_seen d).content ≡ Some c → IsLogText c log
+    → IfSome input.left (λ text. IsSegment text log.batches batches
+    → (status ≡ Done) ⊎ ((status ≡ Device) ⊎ (status ≡ NoMemory)))
+
+-- What a load does. It uses the disk of one log alone.
+pub record LoadsSegment {B D : Type 0} (bay : BayChange B D) (input : InputChange)
+    (output : OutputChange) (conf : ConfigParts) (shard : ℕ) (status : Status) : Type 0 where
+  pub disk : List ℕ
+  pub disk_is : IsLogDisk conf.topics shard disk
+  -- what the status says of the segment, of what was written, and of the disk
+  pub ends : IsLoad bay disk input output status
+  pub complete : LoadCompletes bay disk input output status
+  -- no fault of the disk was armed, and no power lost
+  pub runs : RunsDisk bay disk
+  -- each other disk is as it was
+  pub others : LeavesOthers bay (IsLogDisk conf.topics shard)

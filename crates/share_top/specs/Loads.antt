@@ -130,9 +130,4 @@ IsLogRefusal disk fault output status.WriteFault = Rose output.faults output.fau
     × ((place : ℕ) × (fault ≡ open_fault.Damaged place) × WritesFrontOf (damaged_line disk place) output)
 IsLogRefusal disk fault output status.Device = (fault ≡ open_fault.Device) × KeepsText output.held output.held_after
 IsLogRefusal disk fault output status.NoMemory = KeepsText output.held output.held_after
-IsLogRefusal disk fault output status.Done = ⊥
-IsLogRefusal disk fault output status.Usage = ⊥
-IsLogRefusal disk fault output status.Listener = ⊥
-IsLogRefusal disk fault output status.Spawner = ⊥
-IsLogRefusal disk fault output status.Malformed = ⊥
-IsLogRefusal disk fault output status.ReadFault = ⊥
+IsLogRefusal disk fault output _ = ⊥

@@ -1,13 +1,11 @@
--- A recorded session on the disks of a bay: all that is promised of it is said of one run of the broker. This project's
--- own.
+-- A recorded session on the disks of a bay: all that is said of it is said of one run of the broker (this project's
+-- own).
 -- For example the session `power 5` on empty disks is a run of one step, from the opening of empty logs, no tables and
 -- no keys to the opening of the contents that are each disk's one loss, with choice 5; and what was written is its
 -- outcome's line `restarted`.
 use Rattle.std.specs.Prelude.{◌≡◌, ◌⊎◌, ◌≤◌, ◌-◌, ◌++◌, ℕ, List, Bool}
-use Rattle.std.specs.List.{AllByRecursion}
 use Rattle.std.specs.declared.option.Option.{Option}
 use Rattle.std.specs.Io.KnownBytes.{Appends}
-use Rattle.edge_io.specs.declared.fault.Armed.TheVariants.{Nothing}
 use Rattle.edge_io.specs.Causes.{Rose}
 use Rattle.edge_io.specs.Streams.{AppendsFront}
 use Rattle.session_script.specs.declared.event.Event.{Event}
@@ -22,12 +20,9 @@ use Rattle.broker_model.specs.Disks.{Disks}
 use Rattle.broker_model.specs.Steps.{StepsTo}
 use Rattle.broker_model.specs.States.{ReachTo, State, faults_of}
 use Rattle.broker_model.specs.Runs.{Step, IsRun, events_of, outcomes_of}
-use Rattle.broker_model.specs.Laws.{HoldsOfRun}
-use Rattle.broker_model.specs.Starts.{BeginsWell}
 use Rattle.broker_core.specs.Bays.{TellsDisks, IsFirst, StandForAll, HasLastCount}
 use Rattle.broker_core.specs.Restarts.{IsDamagedDisk}
-use Rattle.share_top.specs.Changes.{OutputChange}
-use Rattle.edge_io.specs.Views.{DiskView, BayView}
+use Rattle.share_top.specs.Changes.{BayChange, OutputChange}
 
 -- ---- what was written of a run's outcomes
 
@@ -113,49 +108,43 @@ pub record Ran (conf : ConfigParts) (first : State) (events : List Event) (Tells
   pub tells : Tells (outcomes_of steps)
   pub ends : Ends last
 
--- The session of these events, on disks that had these contents, of which this was known, and that were left with these
--- contents, of which this is known now.
-pub record IsSession (conf : ConfigParts) (events : List Event) (Tells : List Outcome → Type 0) (Ends : Ending)
-    (contents : List ℕ → List ℕ) (was : Disks) (left : List ℕ → List ℕ) (now : Disks) : Type 0 where
+-- The session of these events, on disks that had these contents, of which this was known, and that were
+-- left with these contents, of which this is known now.
+pub record IsSession (conf : ConfigParts) (events : List Event) (Tells : List Outcome → Type 0)
+    (Ends : Ending) (contents : List ℕ → List ℕ) (was : Disks) (left : List ℕ → List ℕ) (now : Disks)
+    : Type 0 where
   pub first : State
   -- it begins with the opening of the contents
   pub opens : IsFirst conf contents was first
+  -- it is a run, which leaves the disks so; `PromisesOfReplay` says what holds of each such run
   pub ran : Ran conf first events Tells (Ends (StandsFor left) (ReachTo conf left) now)
-  -- its losses, arms and counts, and what it promises of records: locks are exclusive, nothing deleted is granted, starts
-  -- pass what was acknowledged or archived alone, and an acknowledgement of what its member holds is refused by the store
-  -- alone
-  pub holds : HoldsOfRun conf first ran.steps ran.last
-  -- its partitions begin well, which is the premise of what `holds` says of starts, and of what is deleted
-  pub well : AllByRecursion BeginsWell first.machine.shards.parts
-  -- a disk with nothing armed begins so: its count rises only behind an arm, as `holds` says
-  pub unarmed : (name : List ℕ) → IsTaken conf name → (was name).armed ≡ Nothing → (first.disks name).armed ≡ Nothing
 
 -- ---- the disks of a bay
 
 -- where a bay tells the disks of this broker
-abbrev pub OfBay : {B D : Type 0} → (B → BayView D) → (D → DiskView)
-    → ConfigParts → B → ((List ℕ → List ℕ) → Disks → Type 0) → Type 0
-OfBay bay_seen seen conf bay P =
-    (contents : List ℕ → List ℕ) (was : Disks) → TellsDisks bay_seen seen conf bay contents was → P contents was
+abbrev pub OfBay : {B D : Type 0} → BayChange B D → ConfigParts
+    → ((List ℕ → List ℕ) → Disks → Type 0) → Type 0
+OfBay bay conf P = (contents : List ℕ → List ℕ) (was : Disks)
+    → TellsDisks bay.seen bay.disk_seen conf bay.old contents was → P contents was
 
 -- where a bay tells them, it tells them behind the call as well
-abbrev pub OverBay : {B D : Type 0} → (B → BayView D) → (D → DiskView)
-    → ConfigParts → B → B → ((List ℕ → List ℕ) → Disks → (List ℕ → List ℕ) → Disks → Type 0) → Type 0
-OverBay bay_seen seen conf old new P = OfBay bay_seen seen conf old (λ contents was.
-    (left : List ℕ → List ℕ) × (now : Disks) × TellsDisks bay_seen seen conf new left now × P contents was left now)
+abbrev pub OverBay : {B D : Type 0} → BayChange B D → ConfigParts
+    → ((List ℕ → List ℕ) → Disks → (List ℕ → List ℕ) → Disks → Type 0) → Type 0
+OverBay bay conf P = OfBay bay conf (λ contents was. (left : List ℕ → List ℕ) × (now : Disks)
+    × TellsDisks bay.seen bay.disk_seen conf bay.new left now × P contents was left now)
 
 -- its disks are told, and stand for some logs and states
-abbrev pub HoldsStates : {B D : Type 0} → (B → BayView D) → (D → DiskView)
-    → ConfigParts → B → Type 0
-HoldsStates bay_seen seen conf bay = (contents : List ℕ → List ℕ) × (was : Disks)
-    × TellsDisks bay_seen seen conf bay contents was × StandForAll conf contents
+abbrev pub HoldsStates : {B D : Type 0} → BayChange B D → ConfigParts → Type 0
+HoldsStates bay conf = (contents : List ℕ → List ℕ) × (was : Disks)
+    × TellsDisks bay.seen bay.disk_seen conf bay.old contents was × StandForAll conf contents
 
 -- one of these disks isn't store text, and this holds of the line that names it and the place of its fault
 abbrev pub NamesDamage : ConfigParts → (List ℕ → List ℕ) → (List ℕ → Type 0) → Type 0
 NamesDamage conf contents Says = (disk : List ℕ) × (place : ℕ) × IsDamagedDisk conf contents disk place
     × Says (damaged_line disk place)
 
--- the bay's count of faults rose, in which are those of its disks; or a disk was taken with one at its last value, as
--- the bay notes it
-abbrev pub CountRose : {B D : Type 0} → (B → BayView D) → (D → DiskView) → ConfigParts → B → B → Type 0
-CountRose bay_seen seen conf old new = Rose (bay_seen old).faults (bay_seen new).faults ⊎ HasLastCount bay_seen conf new
+-- the bay's count of faults rose, in which are those of its disks; or a disk was taken with one at its last
+-- value, as the bay notes it
+abbrev pub CountRose : {B D : Type 0} → BayChange B D → ConfigParts → Type 0
+CountRose bay conf = Rose (bay.seen bay.old).faults (bay.seen bay.new).faults
+    ⊎ HasLastCount bay.seen conf bay.new

@@ -1,11 +1,12 @@
 // What is stored of share groups, as text.
 ghost use Rattle.std.specs.Prelude.{◌≡◌, ◌≢◌, ◌++◌, ◌∷◌, [], codes, Err, List, OnOk, ℕ};
 ghost use Rattle.std.specs.List.{flat_map};
-ghost use Rattle.edge_io.specs.Bays.{IsSound, SameSlot};
+ghost use Rattle.edge_io.specs.Bays.{IsSound};
 ghost use Rattle.text_pieces.specs.Pieces.{WritesPieces};
 ghost use Rattle.broker_core.specs.Hosts.{AreOpen, AreOpenParts, IsOpen, states_at};
 ghost use Rattle.broker_model.specs.Hosted.{IsTaken};
-ghost use Rattle.share_top.specs.Changes.{output_change};
+ghost use Rattle.share_top.specs.Apart.{LeavesOthers};
+ghost use Rattle.share_top.specs.Changes.{bay_change, output_change};
 ghost use Rattle.share_top.specs.Dumping.{IsDump, foreign_texts, tables_text};
 ghost use Rattle.share_top.specs.Loading.{NoneIsOut};
 ghost use Rattle.share_top.specs.Sessions.{HoldsStates};
@@ -130,11 +131,12 @@ where
     B::D: Drop,
     requires { NoneIsOut B.seen bay.old }
     ensures back { NoneIsOut B.seen bay.new }
-    ensures dump { IsDump B.seen B.D.seen bay.old bay.new conf (output_change O.held O.faults output.old output.new) result }
+    ensures dump { IsDump (bay_change B.seen B.D.seen bay.old bay.new) conf
+        (output_change O.held O.faults output.old output.new) result }
     ensures counted { result ≢ Status.WriteFault → O.faults output.new ≡ O.faults output.old }
-    ensures recovers { HoldsStates B.seen B.D.seen conf bay.old → result ≢ Status.Damaged }
+    ensures recovers { HoldsStates (bay_change B.seen B.D.seen bay.old bay.new) conf → result ≢ Status.Damaged }
     ensures sound { IsSound B.seen B.D.seen bay.old → result ≢ Status.Device }
-    ensures others { (name : List ℕ) → (IsTaken conf name → ⊥) → SameSlot B.seen name bay.old bay.new }
+    ensures others { LeavesOthers (bay_change B.seen B.D.seen bay.old bay.new) (IsTaken conf) }
 {
     are_hosted(&conf);
     match Core::start(alloc, bay, conf) {

@@ -10,8 +10,8 @@ ghost use Rattle.share_model.specs.Logs.{Batch};
 ghost use Rattle.part_log.specs.Logs.{Keeps};
 ghost use Rattle.topic_conf.specs.Topics.{IsTopic, partitions};
 ghost use Rattle.share_top.specs.Apart.{RunsDisk};
-ghost use Rattle.share_top.specs.Changes.{input_change, output_change};
-ghost use Rattle.share_top.specs.Loading.{IsLoad, IsLoaded, IsLogDisk, NoneIsOut, loaded_line};
+ghost use Rattle.share_top.specs.Changes.{bay_change, input_change, output_change};
+ghost use Rattle.share_top.specs.Loading.{IsLoad, IsLoaded, IsLogDisk, LoadsSegment, NoneIsOut, loaded_line};
 ghost use Rattle.share_top.specs.Segments.{HasOneReading};
 ghost use Rattle.share_top.specs.Loads.{FailsFed, LacksRoom, LoadsNext, LoadsAll, IsGrown, IsLogRefusal, stop_by};
 
@@ -202,12 +202,12 @@ fn load_on<I: Source, O: Sink, B: Bay>(
 where
     B::D: Drop,
     requires { NoneIsOut B.seen bay.old }
-    ensures loads { IsLoad B.seen B.D.seen name.now bay.old bay.new
+    ensures loads { IsLoad (bay_change B.seen B.D.seen bay.old bay.new) name.now
         (input_change I.left I.ended I.faults input.old input.new) (output_change O.held O.faults output.old output.new) result }
     ensures counted { result ≢ Status.WriteFault → O.faults output.new ≡ O.faults output.old }
     ensures back { NoneIsOut B.seen bay.new }
     ensures others { (m : List ℕ) → m ≢ name.now → SameSlot B.seen m bay.old bay.new }
-    ensures runs { RunsDisk B.seen B.D.seen name.now bay.old bay.new }
+    ensures runs { RunsDisk (bay_change B.seen B.D.seen bay.old bay.new) name.now }
 {
     let Ok(disk) = bay.take(name) else {
         return if bay.starved() {
@@ -260,14 +260,11 @@ where
     B::D: Drop,
     requires hosted { shard < partitions conf.now.topics }
     requires home { NoneIsOut B.seen bay.old }
-    ensures loads { (name : List ℕ) × IsLogDisk conf.now.topics shard name
-        × IsLoad B.seen B.D.seen name bay.old bay.new
-        (input_change I.left I.ended I.faults input.old input.new) (output_change O.held O.faults output.old output.new) result }
+    ensures loads { LoadsSegment (bay_change B.seen B.D.seen bay.old bay.new)
+        (input_change I.left I.ended I.faults input.old input.new)
+        (output_change O.held O.faults output.old output.new) conf.now shard result }
     ensures counted { result ≢ Status.WriteFault → O.faults output.new ≡ O.faults output.old }
     ensures back { NoneIsOut B.seen bay.new }
-    ensures others { (m : List ℕ) → (IsLogDisk conf.now.topics shard m → ⊥) → SameSlot B.seen m bay.old bay.new }
-    ensures runs { (name : List ℕ) → IsLogDisk conf.now.topics shard name
-        → RunsDisk B.seen B.D.seen name bay.old bay.new }
 {
     let Some(name) = log_disk(conf.topics(), shard) else {
         unreachable!()

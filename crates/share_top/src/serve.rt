@@ -1,11 +1,12 @@
 // A server: the broker is opened over the bay, serves links, and puts its disks back.
-ghost use Rattle.std.specs.Prelude.{◌≡◌, ◌≢◌, ◌≤◌, List, ℕ};
-ghost use Rattle.edge_io.specs.Bays.{IsSound, SameSlot};
+ghost use Rattle.std.specs.Prelude.{◌≡◌, ◌≢◌, ◌≤◌};
+ghost use Rattle.edge_io.specs.Bays.{IsSound};
 ghost use Rattle.broker_model.specs.Hosted.{IsTaken};
 ghost use Rattle.broker_run.specs.Working.{HasWorked};
-ghost use Rattle.share_top.specs.Changes.{output_change};
+ghost use Rattle.share_top.specs.Apart.{LeavesOthers};
+ghost use Rattle.share_top.specs.Changes.{bay_change, listener_change, output_change, spawner_change};
 ghost use Rattle.share_top.specs.Loading.{NoneIsOut};
-ghost use Rattle.share_top.specs.Servers.{IsServe, ServesTo, listener_change, spawner_change};
+ghost use Rattle.share_top.specs.Servers.{IsServe, ServesTo};
 ghost use Rattle.share_top.specs.Sessions.{HoldsStates};
 
 use crate::refusal::refuse;
@@ -51,18 +52,21 @@ where
     L::L: Drop + Send + 'static,
     requires home { NoneIsOut B.seen bay.old }
     requires few { words.workers ≤ 256 }
-    ensures serve { IsServe B.seen D.seen (HasWorked D.seen L.L.left L.L.held C.told) bay.old bay.new words
-        (output_change O.held O.faults output.old output.new)
-        (listener_change L.given L.done L.faults listener.old listener.new) (spawner_change P.faults spawner.old spawner.new) result }
+    ensures serve { IsServe (bay_change B.seen D.seen bay.old bay.new)
+        (output_change O.held O.faults output.old output.new) record {
+          listener = listener_change L.given L.done L.faults listener.old listener.new;
+          spawner = spawner_change P.faults spawner.old spawner.new;
+          Worked = HasWorked D.seen L.L.left L.L.held C.told;
+        } words result }
     ensures back { result ≢ Status.NoMemory → NoneIsOut B.seen bay.new }
     ensures counted { result ≢ Status.WriteFault → O.faults output.new ≡ O.faults output.old }
 
     // Disks that stand for logs and states are never damaged, and those of a sound bay never fail the opening.
-    ensures recovers { HoldsStates B.seen D.seen words.conf bay.old → result ≢ Status.Damaged }
+    ensures recovers { HoldsStates (bay_change B.seen D.seen bay.old bay.new) words.conf → result ≢ Status.Damaged }
     ensures sound { IsSound B.seen D.seen bay.old → result ≢ Status.Device }
 
     // A disk that isn't the broker's is as it was.
-    ensures others { (name : List ℕ) → (IsTaken words.conf name → ⊥) → SameSlot B.seen name bay.old bay.new }
+    ensures others { LeavesOthers (bay_change B.seen D.seen bay.old bay.new) (IsTaken words.conf) }
 {
     let ServeWords {
         conf,

@@ -5,7 +5,7 @@ use Rattle.broker_core.specs.declared.fault.CoreOpen.{CoreOpen}
 use Rattle.broker_core.specs.Hosts.{disks_in}
 use Rattle.broker_core.proofs.Leading.{go_on_same, still_all}
 use Rattle.share_top.specs.declared.status.Status.TheVariants.{Device}
-use Rattle.share_top.specs.Changes.{output_change}
+use Rattle.share_top.specs.Changes.{bay_change, output_change}
 use Rattle.share_top.specs.Dumping.{IsDumped}
 use Rattle.share_top.specs.Sessions.{OverBay}
 use Rattle.share_top.specs.Slots.{core_text}
@@ -23,7 +23,7 @@ returns-in-Ok-clause-back g c = λ name. (c.finish.ensures.none_out c.in-Ok.ensu
 pub returns-in-Ok-clause-dump : goal.returns-in-Ok-clause-dump
 returns-in-Ok-clause-dump g c = inl (is_written c.write_states-written.result c.status_of.result
     (output_change g.O.Sink.held g.O.Sink.faults c.args.output.now c.write_states-written.new.output) (core_text c.in-Ok.core.hosts)
-    (λ Says. OverBay g.B.Bay.seen g.B.D.Disk.seen c.args.conf c.args.bay.now c.finish.new.bay (IsDumped c.args.conf Says))
+    (λ Says. OverBay (bay_change g.B.Bay.seen g.B.D.Disk.seen c.args.bay.now c.finish.new.bay) c.args.conf (IsDumped c.args.conf Says))
     c.write_states-written.ensures
     (λ Says says. dumped g.B.Bay.seen g.B.D.Disk.seen (λ d x e. (g.met.B.D.Disk.read_is_image d x e).0) c.args.bay.now c.start.new.bay c.finish.new.bay
     c.args.conf c.in-Ok.core (disks_in c.in-Ok.core.hosts) c.in-Ok.ensures.open.1 c.in-Ok.ensures.opens c.start.ensures.told

@@ -1,6 +1,6 @@
 use Rattle.std.proofs.Common.{inl, inr, refl, sym, ap, ◌∙◌, subst, is_some}
 use Rattle.edge_io.specs.Armed.{RunsOn}
-use Rattle.share_top.specs.Changes.{input_change, output_change}
+use Rattle.share_top.specs.Changes.{bay_change, input_change, output_change}
 use Rattle.share_top.specs.Loading.{StoresIn, DamagesIn, FailsWithMemory, HasNoRoomIn}
 use Rattle.share_top.specs.Loads.{FailsFed, IsGrown, LacksRoom}
 use Rattle.edge_io.proofs.Runs.{runs_then}
@@ -17,10 +17,10 @@ returns-in-Ok-open-clause-loads g c =
     inl (weakens (input_change g.I.Source.left g.I.Source.ended g.I.Source.faults c.args.input.now c.load_into-status.new.input)
     (output_change g.O.Sink.held g.O.Sink.faults c.args.output.now c.load_into-status.new.output)
     (IsGrown g.B.D.Disk.seen c.in-Ok-open.log c.load_into-status.new.log)
-    (StoresIn g.B.Bay.seen g.B.D.Disk.seen c.args.name.now c.args.bay.now c.put_back.new.self)
-    (LacksRoom c.in-Ok-open.log) (HasNoRoomIn g.B.Bay.seen g.B.D.Disk.seen c.args.name.now c.args.bay.now)
+    (StoresIn (bay_change g.B.Bay.seen g.B.D.Disk.seen c.args.bay.now c.put_back.new.self) c.args.name.now)
+    (LacksRoom c.in-Ok-open.log) (HasNoRoomIn (bay_change g.B.Bay.seen g.B.D.Disk.seen c.args.bay.now c.put_back.new.self) c.args.name.now)
     (FailsFed g.B.D.Disk.seen c.starved-starved.result c.in-Ok-open.log.journal.disk last)
-    (FailsWithMemory g.B.Bay.seen g.B.D.Disk.seen c.args.name.now c.args.bay.now c.put_back.new.self)
+    (FailsWithMemory (bay_change g.B.Bay.seen g.B.D.Disk.seen c.args.bay.now c.put_back.new.self) c.args.name.now)
     (stores g.B.Bay.seen g.B.D.Disk.seen c.args.name.now c.args.bay.now c.take.new.self c.put_back.new.self
     c.in-Ok.disk c.into_disk.result given c.in-Ok.ensures.told c.put_back.ensures.there
     (ap (λ (d : g.row.B-D.Denot). is_some (g.B.D.Disk.seen d).content) c.into_disk.ensures ∙ run.told ∙ opened.told)
@@ -48,8 +48,8 @@ returns-in-Err-clause-loads g c =
           c.in-Ok.disk c.in-Err.disk given c.in-Ok.ensures.told c.put_back-in-Err.ensures.there runs.told g.met.B.D.Disk.counts_now
           c.in-Err.ensures.any_moment,
       not_loaded (output_change g.O.Sink.held g.O.Sink.faults c.args.output.now c.refuse_log.new.output) c.args.name.now c.in-Err.fault
-          (DamagesIn g.B.Bay.seen g.B.D.Disk.seen c.args.name.now c.args.bay.now)
-          (FailsWithMemory g.B.Bay.seen g.B.D.Disk.seen c.args.name.now c.args.bay.now c.put_back-in-Err.new.self)
+          (DamagesIn (bay_change g.B.Bay.seen g.B.D.Disk.seen c.args.bay.now c.put_back-in-Err.new.self) c.args.name.now)
+          (FailsWithMemory (bay_change g.B.Bay.seen g.B.D.Disk.seen c.args.bay.now c.put_back-in-Err.new.self) c.args.name.now)
           (damages g.B.Bay.seen g.B.D.Disk.seen c.args.name.now c.args.bay.now c.take.new.self c.put_back-in-Err.new.self
           c.in-Ok.disk given c.in-Err.fault c.in-Err.ensures.damaged)
           c.refuse_log.result

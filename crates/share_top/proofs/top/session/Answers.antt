@@ -8,7 +8,7 @@ use Rattle.edge_io.specs.Views.{BayView}
 use Rattle.share_top.specs.Sessions.{CountRose}
 use Rattle.share_top.proofs.Apart.{slot_then}
 use Rattle.share_top.proofs.Counts.{count_rose}
-use Rattle.share_top.specs.Changes.{input_change, output_change}
+use Rattle.share_top.specs.Changes.{bay_change, input_change, output_change}
 use Rattle.share_top.specs.declared.status.Status.TheVariants.{Device}
 use Rattle.share_top.proofs.Ends.{names_stay, played_over, not_opened, sound_tells, never_stopped, disks_stay, refusal_damaged, refusal_device}
 use Rattle.share_top.proofs.top.session.Goals as goal
@@ -37,7 +37,7 @@ returns-in-Ok-clause-replay g c = inl (played_over g.B.Bay.seen g.B.D.Disk.seen
     (input_change g.I.Source.left g.I.Source.ended g.I.Source.faults c.args.input.now c.replay-status.new.input)
     (output_change g.O.Sink.held g.O.Sink.faults c.args.output.now c.replay-status.new.output)
     (OneRose g.B.D.Disk.seen (disks_in c.in-Ok.core.hosts) (disks_in c.replay-status.new.core.hosts))
-    (CountRose g.B.Bay.seen g.B.D.Disk.seen c.args.conf c.args.bay.now c.finish.new.bay)
+    (CountRose (bay_change g.B.Bay.seen g.B.D.Disk.seen c.args.bay.now c.finish.new.bay) c.args.conf)
     (λ rose. count_rose g.B.Bay.seen g.B.D.Disk.seen c.args.conf c.args.bay.now c.start.new.bay c.finish.new.bay c.finish.ensures.noted
     (disks_in c.in-Ok.core.hosts) (disks_in c.replay-status.new.core.hosts) c.in-Ok.ensures.counts c.replay-status.ensures.disks rose c.finish.ensures.rises c.start.ensures.later)
     c.replay-status.result c.replay-status.ensures.played)
