@@ -2,10 +2,10 @@
 use Rattle.std.proofs.Common.{◌++◌, ◌∷◌, [], List}
 use Rattle.std.specs.List.{AllByRecursion, AllZip}
 use Rattle.shard_lock.specs.Passes.{IsOf, LockParts, PassParts}
-use Rattle.broker_run.specs.Acting.{AreOf}
-use Rattle.broker_run.specs.Rows.{IsAlone, StandsAlone}
-use Rattle.broker_run.specs.Shared.{PassesParts, SharedParts}
-use Rattle.broker_run.proofs.Lines.{all_last}
+use Rattle.broker_locks.specs.Acting.{AreOf}
+use Rattle.broker_locks.specs.Rows.{IsAlone, StandsAlone}
+use Rattle.broker_locks.specs.Shared.{PassesParts, SharedParts}
+use Rattle.broker_locks.proofs.Lines.{all_last}
 
 of_each : {S E A : Type 0} (ls : List (LockParts S)) (ps : List (PassParts S E A)) → AllZip StandsAlone ls ps → AllZip IsOf ls ps
 of_each [] [] z = tt

@@ -17,6 +17,9 @@ pub const RELEASED: usize = 2;
 /// How many replies were written, where their links' numbers are heard.
 pub const HEARD: usize = 3;
 
+/// How often clocks were asked, where they count it.
+pub const ASKED: usize = 4;
+
 /// How often a signal is looked at.
 pub const LOOKS: u32 = 20_000;
 
@@ -61,17 +64,35 @@ impl Board {
         }
     }
 
-    /// Waits until a signal is set, and gives its number: 0 where that lasts too long.
-    pub fn wait(&self, signal: usize) -> u64 {
-        for _ in 0..LOOKS {
+    /// Counts a signal up by one: how often it was counted before.
+    pub fn count(&self, signal: usize) -> u64 {
+        match self.signals.get(signal) {
+            Some(signal) => signal.fetch_add(1, Ordering::SeqCst),
+            None => 0,
+        }
+    }
+
+    // Looks so often whether a signal has this number or a greater one, and gives it: 0 where it hasn't.
+    fn look(&self, signal: usize, least: u64, looks: u32) -> u64 {
+        for _ in 0..looks {
             let number = self.told(signal);
-            if number != 0 {
+            if number >= least {
                 return number;
             }
             self.pause();
         }
         self.fail("a wait has no end");
         0
+    }
+
+    /// Waits until a signal is set, and gives its number: 0 where that lasts too long.
+    pub fn wait(&self, signal: usize) -> u64 {
+        self.look(signal, 1, LOOKS)
+    }
+
+    /// Waits, longer than for any other signal, until clocks were asked so often.
+    pub fn wait_for_asks(&self, least: u64) {
+        self.look(ASKED, least, 5 * LOOKS);
     }
 
     /// Lets a millisecond pass.

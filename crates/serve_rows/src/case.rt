@@ -1,7 +1,8 @@
 // The cases of a file.
 use crate::board::Board;
+use crate::locks::locks_told;
 use crate::peer::{Peer, parted};
-use crate::serving::{gated, links_status, numbered};
+use crate::serving::{gated, links_status, numbered, woken};
 use crate::socket::socket_status;
 use crate::turns::turns;
 use row_text::{compared, expanded};
@@ -114,10 +115,11 @@ fn outcome<
     let told = match kind {
         "status" => links_status(handle, rt, case)?,
         "gated" => gated(handle, rt, case)?,
+        "woken" => woken(handle, rt, case)?,
         "numbered" => numbered(handle, rt, case)?,
         "expiries" => turns(handle, rt, case)?,
         "socket" => socket_status(handle, rt, case)?,
-        _ => return Ok(None),
+        _ => return locks_told(handle, rt.alloc(), kind),
     };
     Ok(Some(told))
 }

@@ -1,9 +1,9 @@
-// What a server meets: clocks that go on by steps, jobs of which one is refused, a gate that holds a link, and one that
-// hears the numbers of links.
+// What a server meets: clocks that go on by steps or by how often they are asked, jobs of which one is refused, gates
+// that hold a link, and one that hears the numbers of links.
 ghost use Rattle.std.specs.Prelude.{◌≤◌, ◌^◌, None};
 ghost use Rattle.edge_io.specs.Causes.{Rose};
 
-use crate::board::{Board, HEARD, RELEASED};
+use crate::board::{ASKED, Board, HEARD, RELEASED};
 use edge_io::{Clock, Gate, GatePlace, Spawner};
 use std::alloc::Global;
 use std::sync::Arc;
@@ -41,6 +41,43 @@ impl Clock for StepClock {
     fn pause(&mut self, _ms: u32) {
         thread::sleep(&self.rt, Duration::from_millis(1));
     }
+}
+
+/// So often clocks are asked before they answer `LATE`.
+const PATIENCE: u64 = 10_000_000;
+
+/// So much more often they are asked before a link goes on that is held.
+const MORE: u64 = 1_000_000;
+
+/// A moment behind the end of each wait.
+const LATE: u64 = 100_000;
+
+/// A clock that answers 0, and `LATE` once it and those made from it were asked so often together. Its pauses have no
+/// length.
+#[derive(Drop)]
+pub struct AskedClock {
+    pub board: Option<Arc<Board, Global>>,
+}
+
+impl Clock for AskedClock {
+    ghost told = { λ _. None };
+
+    fn now_ms(&mut self) -> u64 {
+        match &self.board {
+            Some(board) if board.count(ASKED) >= PATIENCE => LATE,
+            _ => 0,
+        }
+    }
+
+    fn another(&self) -> AskedClock {
+        let board = match &self.board {
+            Some(board) => Arc::try_clone(board).ok(),
+            None => None,
+        };
+        AskedClock { board }
+    }
+
+    fn pause(&mut self, _ms: u32) {}
 }
 
 /// Starts each job in a thread, but for one, which it refuses.
@@ -97,6 +134,39 @@ impl Gate for HeldLink {
                 self.board.wait(RELEASED);
             }
             GatePlace::Replied { link: 1 } => self.board.put(RELEASED, 1),
+            _ => {}
+        }
+    }
+}
+
+/// Holds link 1 before each part until link 0 has a reply and clocks were asked many times more. The next reply of link
+/// 0 has to come before any of them is late.
+#[derive(Drop)]
+pub struct HeldProduce {
+    pub board: Arc<Board, Global>,
+}
+
+impl HeldProduce {
+    /// Link 0 has a reply.
+    fn replied(&self) {
+        let asked = self.board.told(ASKED);
+        if self.board.told(RELEASED) == 0 {
+            self.board.put(RELEASED, asked.saturating_add(MORE));
+        } else if asked >= PATIENCE {
+            self.board
+                .fail("a fetch that waits isn't woken by a produce");
+        }
+    }
+}
+
+impl Gate for HeldProduce {
+    fn at(&self, place: GatePlace) {
+        match place {
+            GatePlace::Part { link: 1 } => {
+                let asked = self.board.wait(RELEASED);
+                self.board.wait_for_asks(asked);
+            }
+            GatePlace::Replied { link: 0 } => self.replied(),
             _ => {}
         }
     }

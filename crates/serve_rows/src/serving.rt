@@ -2,10 +2,10 @@
 use crate::board::HEARD;
 use crate::case::Case;
 use crate::disks::{MemFolders, bay_of};
-use crate::edges::{HeldLink, Jobs, LinkNumbers, StepClock};
+use crate::edges::{AskedClock, HeldLink, HeldProduce, Jobs, LinkNumbers, StepClock};
 use crate::peer::Peer;
 use broker_run::{LinksEnd, Served};
-use edge_io::{Gate, Listener};
+use edge_io::{Clock, Gate, Listener};
 use edge_mem::{MemListener, MemSink, MemSource};
 use edge_real::{NoNotices, TcpLink};
 use share_top::{run, serve_words};
@@ -94,11 +94,12 @@ fn word_of(served: &Served) -> &'static str {
     }
 }
 
-/// Serves the case's links with a gate, and tells what became of the server.
+/// Serves the case's links with a clock and a gate, and tells what became of the server.
 fn past<
     H: Threads + Wait + Clone + Copy + Drop + Send + Sync + 'static,
+    C: Clock + Drop + Send + 'static,
     G: Gate + Drop + Send + Sync + 'static,
->(handle: &H, rt: HostRuntime, case: &mut Case, gate: G) -> io::Result<String> {
+>(handle: &H, rt: HostRuntime, case: &mut Case, clock: &C, gate: G) -> io::Result<String> {
     let alloc = rt.alloc();
     let (folders, folder) = folders_of(case)?;
     let mut listener = listener_of(alloc, case)?;
@@ -106,7 +107,6 @@ fn past<
         return Ok(String::from_str(alloc, "no words of a server")?);
     };
     let mut bay = bay_of(alloc, folders, folder);
-    let clock = StepClock::new(rt, case.step);
     let mut jobs = Jobs::new(*handle, case.refused);
     let served = broker_run::serve(
         handle,
@@ -115,7 +115,7 @@ fn past<
         words.workers.min(256),
         words.accept,
         &mut bay,
-        &clock,
+        clock,
         &mut listener,
         &mut jobs,
         gate,
@@ -130,7 +130,21 @@ pub fn gated<H: Threads + Wait + Clone + Copy + Drop + Send + Sync + 'static>(
     case: &mut Case,
 ) -> io::Result<String> {
     let board = Arc::try_clone(&case.board)?;
-    past(handle, rt, case, HeldLink { board })
+    let clock = StepClock::new(rt, case.step);
+    past(handle, rt, case, &clock, HeldLink { board })
+}
+
+/// Serves the case's links with clocks that count how often they are asked, and a gate that holds link 1.
+pub fn woken<H: Threads + Wait + Clone + Copy + Drop + Send + Sync + 'static>(
+    handle: &H,
+    rt: HostRuntime,
+    case: &mut Case,
+) -> io::Result<String> {
+    let board = Arc::try_clone(&case.board)?;
+    let clock = AskedClock {
+        board: Some(Arc::try_clone(&case.board)?),
+    };
+    past(handle, rt, case, &clock, HeldProduce { board })
 }
 
 /// Serves the case's links with a gate that hears their numbers, and tells how many replies there were.
@@ -140,6 +154,7 @@ pub fn numbered<H: Threads + Wait + Clone + Copy + Drop + Send + Sync + 'static>
     case: &mut Case,
 ) -> io::Result<String> {
     let board = Arc::try_clone(&case.board)?;
-    let became = past(handle, rt, case, LinkNumbers { board })?;
+    let clock = StepClock::new(rt, case.step);
+    let became = past(handle, rt, case, &clock, LinkNumbers { board })?;
     Ok(format!(in rt.alloc(); "{became} {}", case.board.told(HEARD))?)
 }

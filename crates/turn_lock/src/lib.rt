@@ -13,8 +13,6 @@ mod leading;
 mod lock;
 mod shard;
 mod steps;
-#[cfg(test)]
-mod tests;
 
 pub use lock::{Pass, TurnLock};
 pub use shard::Shard;

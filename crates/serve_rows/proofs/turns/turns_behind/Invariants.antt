@@ -1,4 +1,4 @@
-use Rattle.broker_run.specs.Acting.{AreOf}
+use Rattle.broker_locks.specs.Acting.{AreOf}
 use Rattle.serve_rows.proofs.turns.turns_behind.Given as goal
 
 abbrev pub invariant-loop-peer : goal.invariant-loop-peer

@@ -1,6 +1,6 @@
 use Rattle.std.proofs.Common.{rules, ◌≡◌, ◌++◌, ◌∷◌, [], subst}
 use Rattle.std.specs.List.{AllByRecursion}
-use Rattle.broker_run.specs.Rows.{IsAlone}
+use Rattle.broker_locks.specs.Rows.{IsAlone}
 use Rattle.serve_rows.proofs.Passes.{row_of}
 use Rattle.serve_rows.proofs.turns.turns_of_row.Goals as goal
 

@@ -1,4 +1,4 @@
-use Rattle.broker_run.proofs.Whole.{hosts_all, whole_of}
+use Rattle.broker_locks.proofs.Whole.{hosts_all, whole_of}
 use Rattle.serve_rows.proofs.turns.turns_over.Goals as goal
 
 pub turns_of_row-requires-clause-hosts : goal.turns_of_row-requires-clause-hosts
