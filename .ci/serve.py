@@ -20,168 +20,10 @@ import tempfile
 import threading
 import time
 import unittest
-from uuid import UUID
 
-TOP = os.path.dirname(os.path.dirname(os.path.abspath(__file__)))
-sys.path.insert(0, os.path.join(TOP, "clients", "python"))
-
-from sharebroker.batches import MAX_BATCH_BYTES, BatchBuilder, read_batches  # noqa: E402
-from sharebroker.connection import Connection, check_versions  # noqa: E402
-from sharebroker.errors import ConnectionLost, NotSent, Unreachable  # noqa: E402
-from sharebroker.messages import DELETE_RECORDS, PRODUCE, READ_STATE, DeletePartition  # noqa: E402
-from sharebroker.messages import DeleteRecordsRequest, DeleteTopic, ProducePartition, ProduceRequest  # noqa: E402
-from sharebroker.messages import ProduceTopic, ReadPartition, ReadShareGroupStateRequest, ReadTopic  # noqa: E402
-from sharebroker.share_messages import SHARE_ACKNOWLEDGE, SHARE_FETCH, AcknowledgementBatch  # noqa: E402
-from sharebroker.share_messages import AskedPartition, AskedTopic  # noqa: E402
-from sharebroker.share_messages import ShareAcknowledgeRequest, ShareFetchRequest  # noqa: E402
-
-PROGRAM = os.environ.get("SHAREBROKER", os.path.join(TOP, "crates", "sharebroker", "out", "sharebroker"))
-ORDERS = UUID("22222222-2222-2222-2222-222222222222")
-
-#: How long anything is waited for, in seconds.
-PATIENCE = 60
-
-LISTENING = re.compile(r"sharebroker: listening on 127\.0\.0\.1:(\d+), (\d+) partitions?, (\d+) workers?$")
-
-
-def within(holds, what):
-    """Waits until something holds."""
-    end = time.monotonic() + PATIENCE
-    while not holds():
-        if time.monotonic() > end:
-            raise AssertionError(f"{what}: not within {PATIENCE} s")
-        time.sleep(0.002)
-
-
-class Server:
-    """The program as a server over a folder. Its lines on standard error are kept as they come.
-
-    `bounded` are limits of the shell's `ulimit`, within which it is run.
-    """
-
-    def __init__(self, folder, *words, partitions=1, port=0, bounded=()):
-        self.lines = []
-        self.words = [PROGRAM, "serve", "--dir", folder, "--listen", f"127.0.0.1:{port}", "--advertise",
-                      "localhost:9092", "--reset", "earliest", *words, f"orders:{partitions}:{ORDERS}"]
-        bounds = [f"ulimit {bound} || exit" for bound in bounded]
-        shell = ["sh", "-c", "; ".join([*bounds, 'exec "$0" "$@"'])] if bounded else []
-        self.process = subprocess.Popen([*shell, *self.words], stdin=subprocess.DEVNULL, stdout=subprocess.PIPE,
-                                        stderr=subprocess.PIPE, text=True)
-        self._reader = threading.Thread(target=self._read, daemon=True)
-        self._reader.start()
-
-    def _read(self):
-        for line in self.process.stderr:
-            self.lines.append(line.rstrip("\n"))
-
-    def _found(self):
-        for line in self.lines:
-            found = LISTENING.match(line)
-            if found:
-                return found
-        if self.process.poll() is not None:
-            self._reader.join(PATIENCE)
-            raise AssertionError(f"{' '.join(self.words)}: status {self.process.returncode}: {self.lines}")
-        return None
-
-    def listening(self):
-        """Waits for the line that tells the port, and gives its numbers: port, partitions, workers."""
-        within(self._found, "the line 'listening'")
-        self.port, partitions, workers = map(int, self._found().groups())
-        return self.port, partitions, workers
-
-    def ended(self):
-        """Waits for the end, and gives the status and the lines."""
-        status = self.process.wait(PATIENCE)
-        self._reader.join(PATIENCE)
-        return status, self.lines
-
-    def kill(self):
-        """Ends it as a crash of the process does."""
-        self.process.kill()
-        self.process.wait(PATIENCE)
-
-    def close(self):
-        self.kill()
-        self._reader.join(PATIENCE)
-        self.process.stdout.close()
-        self.process.stderr.close()
-
-
-class Member:
-    """A connection by which a producer stores records, and a member of the group `g` fetches and acknowledges."""
-
-    def __init__(self, port, name="a"):
-        self.name = name
-        self.epoch = 0
-        self.connection = Connection(("127.0.0.1", port), "ci", PATIENCE * 1000)
-
-    def produced(self, *values, partition=0):
-        """Stores the values as one batch: what the reply tells of it."""
-        batch = BatchBuilder()
-        for value in values:
-            batch.add(0, None, value, (), MAX_BATCH_BYTES)
-        data = [ProduceTopic("orders", [ProducePartition(partition, batch.build())])]
-        reply = self.connection.call(PRODUCE, ProduceRequest(None, -1, 30000, data))
-        return reply.responses[0].partition_responses[0]
-
-    def produce(self, *values, partition=0):
-        """Stores the values as one batch: its code and its first offset."""
-        told = self.produced(*values, partition=partition)
-        return told.error_code, told.base_offset
-
-    def delete(self, *offsets):
-        """Deletes the records of partition 0 below each of these offsets, one after the other by one request: of each
-        the code and the low watermark."""
-        topics = [DeleteTopic("orders", [DeletePartition(0, offset)]) for offset in offsets]
-        reply = self.connection.call(DELETE_RECORDS, DeleteRecordsRequest(topics, 30000))
-        return [(part.error_code, part.low_watermark) for topic in reply.topics for part in topic.partitions]
-
-    def start(self, group="g"):
-        """The start offset that is stored of a group on partition 0, which has no stored records there."""
-        asked = ReadShareGroupStateRequest(group, [ReadTopic(ORDERS, [ReadPartition(0, 0)])])
-        told = self.connection.call(READ_STATE, asked).results[0].partitions[0]
-        assert (told.error_code, told.state_batches) == (0, []), told
-        return told.start_offset
-
-    def fetch(self, most=500, partition=0):
-        """Acquires at most so many records: a list of offset, value and delivery count."""
-        asked = [AskedTopic(ORDERS, [AskedPartition(partition, [])])] if self.epoch == 0 else []
-        request = ShareFetchRequest("g", self.name, self.epoch, 0, 1, 1 << 20, most, most, asked, [])
-        reply = self.connection.call(SHARE_FETCH, request)
-        assert reply.error_code == 0, reply
-        self.epoch += 1
-        records = []
-        for topic in reply.responses:
-            for part in topic.partitions:
-                assert part.error_code == 0, part
-                counts = {}
-                for run in part.acquired_records:
-                    for offset in range(run.first_offset, run.last_offset + 1):
-                        counts[offset] = run.delivery_count
-                records += [(record.offset, record.value, counts[record.offset])
-                            for record in read_batches(part.records or b"") if record.offset in counts]
-        return records
-
-    def acknowledge(self, first, last, kind=1, partition=0):
-        """Acknowledges the offsets, 1 to accept: the code."""
-        batches = [AcknowledgementBatch(first, last, [kind])]
-        asked = [AskedTopic(ORDERS, [AskedPartition(partition, batches)])]
-        reply = self.connection.call(SHARE_ACKNOWLEDGE, ShareAcknowledgeRequest("g", self.name, self.epoch, asked))
-        assert reply.error_code == 0, reply
-        self.epoch += 1
-        return reply.responses[0].partitions[0].error_code
-
-    def vanish(self):
-        """Breaks the connection off, without the end of the stream, and gives its address."""
-        raw = self.connection._socket
-        host, port = raw.getsockname()
-        raw.setsockopt(socket.SOL_SOCKET, socket.SO_LINGER, struct.pack("ii", 1, 0))
-        raw.close()
-        return f"{host}:{port}"
-
-    def close(self):
-        self.connection.close()
+from members import ORDERS, PATIENCE, PROGRAM, Member, Server, Waiting, within
+from sharebroker.connection import check_versions
+from sharebroker.errors import ConnectionLost, NotSent, Unreachable
 
 
 class ServeCase(unittest.TestCase):
@@ -320,11 +162,93 @@ class ServeCase(unittest.TestCase):
         holder, other = self.member(server, "a"), self.member(server, "b")
         holder.produce(b"a")
         begun = time.monotonic()
-        self.assertEqual(len(holder.fetch()), 1)
-        within(other.fetch, "the record whose lock has ended")
+        self.assertEqual((len(holder.fetch()), other.fetch(wait_ms=60000)), (1, [(0, b"a", 2)]))
         # Turns of expiries are a second apart. A busy machine may be late.
         self.assertGreaterEqual(time.monotonic() - begun, 2)
         self.assertLess(time.monotonic() - begun, 20)
+
+    def woken(self, member, act):
+        """Has a member's fetch wait, and does something then: what the fetch has, and how long behind that it came."""
+        waiting = Waiting(member, wait_ms=60000)
+        waiting.join(0.2)
+        self.assertTrue(waiting.is_alive(), waiting.records)
+        act()
+        done = time.monotonic()
+        records, _ = waiting.answered()
+        return records, max(0.0, waiting.ended - done)
+
+    def test_a_fetch_that_waits_is_answered_as_soon_as_there_is_a_record(self):
+        server = self.server(partitions=2)
+        holder, gone, waiter = (self.member(server, name) for name in "abc")
+        # The first fetch of a group makes its tables, and doesn't wait.
+        self.assertEqual(waiter.fetch(wait_ms=60000, partitions=(1, 0)), [])
+        self.assertEqual((holder.fetch(), gone.fetch()), ([], []))
+        late = []
+
+        def has(act, *wanted, partition=0):
+            records, took = self.woken(waiter, act)
+            self.assertEqual(records, [wanted])
+            self.assertEqual(waiter.acknowledge(wanted[0], wanted[0], partition=partition), 0)
+            late.append(took)
+
+        has(lambda: holder.produce(b"a"), 0, b"a", 1)
+        has(lambda: holder.produce(b"b", partition=1), 0, b"b", 1, partition=1)
+        holder.produce(b"c")
+        self.assertEqual(holder.fetch(), [(1, b"c", 1)])
+        has(lambda: holder.acknowledge(1, 1, kind=2), 1, b"c", 2)
+        holder.produce(b"d")
+        self.assertEqual(gone.fetch(), [(2, b"d", 1)])
+        has(gone.vanish, 2, b"d", 2)
+        # A delete moves the 2000 offsets on that a fetch looks at.
+        holder.produce(*(b"%d" % number for number in range(2001)))
+        self.assertEqual(len(holder.fetch(2001)), 2000)
+        has(lambda: holder.delete(4), 2003, b"2000", 1)
+        # Where a look once a second found them, that would be 0.8 s each, but for the first.
+        self.assertLess(sum(late), 1.5, late)
+
+    def test_a_fetch_that_gets_nothing_is_answered_when_its_time_is_up(self):
+        server = self.server(partitions=3)
+        members = [self.member(server, name) for name in "abc"]
+        for number, member in enumerate(members):
+            if number:
+                member.produce(b"a", partition=number)
+            self.assertEqual(len(member.fetch(partitions=(number,))), min(number, 1))
+        # There is no record; the member itself holds all; so does one that opens its session anew, which releases them.
+        asked = [{}, {}, {"epoch": 0, "partitions": (2,)}]
+        waiting = [Waiting(member, wait_ms=1000, **words) for member, words in zip(members, asked)]
+        told = [fetch.answered() for fetch in waiting]
+        self.assertEqual([records for records, _ in told], [[], [], [(0, b"a", 2)]])
+        for _, took in told:
+            self.assertGreaterEqual(took, 1)
+            # It may be a second late, and a busy machine later.
+            self.assertLess(took, 5)
+
+    def test_fetches_that_never_wait(self):
+        member = self.member(self.server())
+        member.produce(b"a", b"b")
+        self.assertEqual(len(member.fetch()), 2)
+        begun = time.monotonic()
+        for asked in ({"wait_ms": 0}, {"wait_ms": -1}, {"least": 0}, {"most": 0}, {"accepted": (0,)}, {"epoch": -1}):
+            self.assertEqual(member.fetch(**{"wait_ms": 60000, **asked}), [], asked)
+        self.assertLess(time.monotonic() - begun, 30)
+
+    def test_a_peer_that_closes_while_its_fetch_waits_gives_its_worker_back(self):
+        server = self.server("--workers", "2", partitions=2)
+        waiting = [self.member(server, name) for name in "ab"]
+        for number, member in enumerate(waiting):
+            member.produce(b"a", partition=number)
+            self.assertEqual(member.fetch(partitions=(number,)), [(0, b"a", 1)])
+            member.waits()
+        other = self.member(server, "c")
+        line = "sharebroker: 1 connection waits for one of 2 workers"
+        within(lambda: line in server.lines, "the line of a connection that waits for a worker")
+        begun = time.monotonic()
+        waiting[0].vanish()
+        self.assertEqual(other.fetch(partitions=(0, 1)), [(0, b"a", 2)])
+        waiting[1].close()
+        self.assertEqual(other.fetch(wait_ms=60000), [(0, b"a", 2)])
+        # Each is noticed within a second. A busy machine may be late.
+        self.assertLess(time.monotonic() - begun, 10)
 
     def traced(self, server, calls, acts):
         """The lines of a trace of these system calls, while the acts are done. Where strace is missing or may not

@@ -19,11 +19,14 @@ from .hand import Hand, Lock, Part, Sent
 from .link import LOG, Link, Pause
 from .membership import Membership
 from .records import Acknowledgement, AcknowledgeType, ConsumerRecord, Outcome
-from .session import ShareSession
+from .session import LATE_MS, ShareSession
 from .share_messages import FetchedPartition, ShareFetchResponse
 
 #: Is told what became of acknowledgements.
 Callback = Callable[[List[Acknowledgement]], None]
+
+#: With less of its time left `poll` pauses between fetches, which don't wait at the broker, in ms.
+LEAST_WAIT_MS = 100
 
 #: What the log says of acknowledgements that aren't stored.
 WORDS = {
@@ -46,8 +49,8 @@ class ConsumerSettings:
     max_poll_interval_ms: float = 300000
     #: How many bytes of batches a poll fetches at most, but for its first batch. The broker sends at most 16777216.
     fetch_max_bytes: int = 16777216
-    #: How long a fetch waits at the broker where it has no record, in ms. Where fetches don't wait there, `poll`
-    #: pauses.
+    #: How long a fetch waits at the broker for a record, in ms, 60000 at most; 0: not at all. Other partitions that
+    #: are assigned meanwhile are fetched from behind it.
     fetch_max_wait_ms: int = 500
     #: The pause between fetches that had no record and didn't wait at the broker, in ms: at first, and at most.
     fetch_backoff_ms: int = 10
@@ -123,6 +126,8 @@ class ShareConsumer:
         self._callback: Optional[Callback] = None
         self._ended: List[Acknowledgement] = []
         self._empty_pause = Pause(self.settings.fetch_backoff_ms, self.settings.fetch_backoff_max_ms)
+        #: Whether the last fetch came back before its time without a record.
+        self._was_early = False
         self._closed = False
         self._user = threading.RLock()
         self._calls = 0
@@ -177,8 +182,9 @@ class ShareConsumer:
 
     def poll(self, timeout_ms: float = 1000, max_records: Optional[int] = None) -> List[ConsumerRecord]:
         """Gives records, in order for each partition, and waits for them at most `timeout_ms`; then there are none.
-        It takes longer where the broker is late: by `request_timeout_ms` for each reply that it waits for, and for a
-        new connection, which takes two replies.
+        With 100 ms or more left it waits at the broker, which looks once a second whose time is up, so it may take a
+        second longer. It also takes longer where the broker is late: by `request_timeout_ms` for each reply that it
+        waits for, and for a new connection, which takes two replies.
 
         There are at most `max_records`, where that is given, and else at most `max_poll_records` of the settings.
 
@@ -317,8 +323,8 @@ class ShareConsumer:
             return []
         began = time.monotonic()
         sent = self._take(began)
-        until = self._until(deadline)
-        wait_ms = min(self.settings.fetch_max_wait_ms, max(0, int((until - began) * 1000)))
+        # One that acknowledges doesn't wait, so what became of that is told first, and the next one waits.
+        wait_ms = 0 if sent else self._wait_ms(began, deadline)
         try:
             reply = session.fetch(wanted, sent.batches(), wait_ms, self.settings.fetch_max_bytes, max_records)
         except (NotSent, Refused, ConnectionLost, MalformedReply) as fault:
@@ -332,9 +338,9 @@ class ShareConsumer:
         self._report()
         records = self._take_in(reply, Lock(began, reply.acquisition_lock_timeout_ms / 1000))
         if records:
-            self._empty_pause.reset()
+            self._begin_pauses_anew()
         elif not sent:
-            self._pause_where_none_was_made(began, wait_ms, until)
+            self._pause_where_none_was_made(began, wait_ms, deadline)
         return records
 
     def _until(self, deadline: float) -> float:
@@ -342,11 +348,29 @@ class ShareConsumer:
         due = self._hand.next_due(time.monotonic())
         return deadline if due is None else min(deadline, due)
 
+    def _wait_ms(self, now: float, deadline: float) -> int:
+        """How long a fetch waits at the broker: not where `poll` has little time left, or where a release that waits
+        is to be sent before such a wait is over for certain."""
+        due = self._hand.next_due(now)
+        end = deadline if due is None else min(deadline, due - LATE_MS / 1000)
+        left_ms = int((end - now) * 1000)
+        return min(self.settings.fetch_max_wait_ms, left_ms) if left_ms >= LEAST_WAIT_MS else 0
+
+    def _begin_pauses_anew(self) -> None:
+        """The next fetch without a record counts as the first one."""
+        self._was_early = False
+        self._empty_pause.reset()
+
     def _pause_where_none_was_made(self, began: float, wait_ms: int, deadline: float) -> None:
-        """Pauses after a fetch that had no record, where it didn't wait at the broker."""
+        """Pauses after a fetch that had no record, where it didn't wait at the broker. The first one that came before
+        its time is followed at once: its group was new there, or another consumer was faster."""
         now = time.monotonic()
-        if wait_ms == 0 or now - began < wait_ms / 2000:
-            time.sleep(min(self._empty_pause.next_ms() / 1000, max(0.0, deadline - now)))
+        if wait_ms and now - began >= wait_ms / 2000:
+            self._begin_pauses_anew()
+        elif wait_ms and not self._was_early:
+            self._was_early = True
+        else:
+            time.sleep(min(self._empty_pause.next_ms() / 1000, max(0.0, self._until(deadline) - now)))
 
     def _connected(self, deadline: float) -> Optional[ShareSession]:
         """The session, or a new one where its connection was lost; None where none can be made in time."""

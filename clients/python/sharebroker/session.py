@@ -11,6 +11,9 @@ from .share_messages import (SHARE_ACKNOWLEDGE, SHARE_FETCH, AcknowledgementBatc
                              ShareAcknowledgeRequest, ShareAcknowledgeResponse, ShareFetchRequest, ShareFetchResponse,
                              TopicPartitions)
 
+#: So much later than it was asked to a wait at the broker may end, in ms, as the broker looks once a second.
+LATE_MS = 1000
+
 Batches = Dict[Part, List[AcknowledgementBatch]]
 
 
@@ -47,14 +50,15 @@ class ShareSession:
 
     def fetch(self, wanted: Sequence[Part], batches: Batches, max_wait_ms: int, max_bytes: int,
               max_records: int) -> ShareFetchResponse:
-        """Acknowledges, and acquires records of the wanted partitions. The first fetch has nothing to acknowledge."""
+        """Acknowledges, and acquires records of the wanted partitions. The first fetch has nothing to acknowledge.
+        Without acknowledgements the broker waits for a record, at most so long."""
         joining = [part for part in wanted if part not in self._joined and part not in batches]
         known = dict.fromkeys([*self._joined, *batches])
         forgotten = [part for part in known if part not in wanted]
         request = ShareFetchRequest(
             self._group_id, self._member_id, self._epoch, max_wait_ms, 1, max_bytes, max_records, max_records,
             asked([*batches, *joining], batches), by_topic(forgotten))
-        reply = self.connection.call(SHARE_FETCH, request, max_wait_ms)
+        reply = self.connection.call(SHARE_FETCH, request, max_wait_ms + LATE_MS if max_wait_ms else 0)
         self._next_epoch("ShareFetch", reply.error_code)
         self._joined = dict.fromkeys(wanted)
         for topic in reply.responses:
