@@ -247,7 +247,7 @@ class ServeCase(unittest.TestCase):
         self.assertEqual(other.fetch(partitions=(0, 1)), [(0, b"a", 2)])
         waiting[1].close()
         self.assertEqual(other.fetch(wait_ms=60000), [(0, b"a", 2)])
-        # Each is noticed within a second. A busy machine may be late.
+        # Each is noticed some second later. A busy machine may be late.
         self.assertLess(time.monotonic() - begun, 10)
 
     def traced(self, server, calls, acts):
