@@ -2,6 +2,7 @@
 use Rattle.std.proofs.Common.{◌≡◌, ◌≤◌, ◌+◌, ◌⊎◌, arith, ◌∷◌, [], inl, inr, refl, sym, ap, ◌∙◌, subst, ℕ, suc, List, length, Bool, true, false, cond, Some, is_some, if◌then◌else◌}
 use Rattle.std.specs.List.{AllZip, flat_map}
 use Rattle.std.specs.declared.option.Option.{Option}
+use Rattle.share_members.specs.Groups.{Memberships}
 use Rattle.edge_io.specs.declared.fault.FaultMode.{FaultMode}
 use Rattle.edge_io.specs.declared.name.DiskPlace.{DiskPlace}
 use Rattle.edge_io.specs.declared.name.DiskPlace.TheVariants.{Log, LogB, StateA, StateB}
@@ -24,7 +25,7 @@ use Rattle.broker_core.specs.declared.slot.PartSlot.{PartSlot}
 use Rattle.broker_core.specs.Carried.{GoesOn, IsCarried, IsFed, IsPartCarried, OpenPart, PartGoesOn}
 use Rattle.broker_shards.specs.Hosts.{holding}
 use Rattle.broker_core.specs.Foreign.{ArmsForeign, ArmsEither}
-use Rattle.broker_core.specs.Hosts.{AreApart, AreCarried, AreDistinct, AreNamed, ArmsPlace, ArmsSlot, BothGoOn, DiskGoesOn, GoOn, HostsParts, IsPartSlot, IsPartState, IsSlot, NotIn, among, disks_in, ends_in, facts_at, facts_in, foreign_disks, foreign_end, foreign_facts, hosted_slot, hosted_slots, open_disk, part_disk, part_end, slot_disks, slot_ends, slots_disks}
+use Rattle.broker_core.specs.Hosts.{AreApart, AreCarried, AreDistinct, AreNamed, AreOpen, AreOpenParts, ArmsPlace, ArmsSlot, BothGoOn, DiskGoesOn, HostsParts, IsOpen, IsPartSlot, IsPartState, IsSlot, NotIn, StaysOpen, among, disks_in, ends_in, facts_at, facts_in, foreign_disks, foreign_end, foreign_facts, hosted_slot, hosted_slots, open_disk, part_disk, part_end, slot_disks, slot_ends, slots_disks}
 use Rattle.broker_core.specs.Cores.{IsArmed}
 use Rattle.broker_core.proofs.Calling.{Turned, with_parts}
 use Rattle.broker_core.proofs.Flats.{among_changed}
@@ -524,11 +525,15 @@ module _ {D : Type 0} (seen : D → DiskView) where
           least_on seen p.was.journal.second.disk,
         )
 
-    pub arms_state_on : GoOn seen (disks_in old) (disks_in new)
-    arms_state_on = record {
-      parts = subst (λ (l : List (PartSlot D)). AllZip (DiskGoesOn seen) (slots_disks old.parts) (slots_disks l)) (sym same)
-          (zip_same (DiskGoesOn seen) (same_goes seen) (slots_disks old.parts));
-      foreign =
-          subst (λ (f : ForeignSlot D). BothGoOn seen (foreign_disks f) (foreign_disks new.foreign)) (sym p.old_is)
-          (subst (λ (f : ForeignSlot D). BothGoOn seen (Some (p.was.journal.first.disk, p.was.journal.second.disk)) (foreign_disks f)) (sym p.new_is) (either_on p.either));
+    pub arms_state_stays : AreOpen old → StaysOpen seen old new
+    arms_state_stays o = record {
+      disks = record {
+        parts = subst (λ (l : List (PartSlot D)). AllZip (DiskGoesOn seen) (slots_disks old.parts) (slots_disks l)) (sym same)
+            (zip_same (DiskGoesOn seen) (same_goes seen) (slots_disks old.parts));
+        foreign =
+            subst (λ (f : ForeignSlot D). BothGoOn seen (foreign_disks f) (foreign_disks new.foreign)) (sym p.old_is)
+            (subst (λ (f : ForeignSlot D). BothGoOn seen (Some (p.was.journal.first.disk, p.was.journal.second.disk)) (foreign_disks f)) (sym p.new_is) (either_on p.either));
+      };
+      are_open = record { parts = subst AreOpenParts (sym same) o.parts; foreign = subst IsOpen (sym p.new_is) tt };
+      hosted = record { hosted = ap hosted_slots same; topics = ap (λ (m : Memberships). m.topics) same_members };
     }

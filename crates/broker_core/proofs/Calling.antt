@@ -6,15 +6,9 @@ use Rattle.std.specs.declared.option.Option.{Option}
 use Rattle.edge_io.specs.declared.name.DiskPlace.{DiskPlace}
 use Rattle.edge_io.specs.declared.name.DiskPlace.TheVariants.{Log, StateA, StateB}
 use Rattle.share_part.specs.Hosting.{PartConfParts}
-use Rattle.call_fold.specs.declared.part.Part.{Part}
-use Rattle.call_fold.specs.declared.part.Part.TheVariants.{Heartbeat}
-use Rattle.call_fold.specs.declared.part.PartAnswer.TheVariants.{Heartbeat as AnswerHeartbeat}
-use Rattle.msgs_group.specs.declared.heartbeat_request.HeartbeatRequest.{HeartbeatRequest}
-use Rattle.msgs_group.specs.declared.heartbeat_reply.HeartbeatReply.{HeartbeatReply}
 use Rattle.broker_model.specs.Hosted.{ChangesAt, HoldsAt, Hosted, first_of, log_of, part_disks, second_of}
-use Rattle.broker_model.specs.Shards.{Counts, Ends, HostedPart, PartCall, Shards, ShardCall, StepsHosted, StepsShards, part_calls}
-use Rattle.broker_model.specs.Shards.ShardCall.{CallPart, CallMembers}
-use Rattle.broker_model.specs.Shards.MembersCall.{Beats}
+use Rattle.broker_model.specs.Shards.{Counts, HostedPart, PartCall, Shards, ShardCall, StepsHosted, part_calls}
+use Rattle.broker_model.specs.Shards.ShardCall.{CallPart}
 use Rattle.broker_model.specs.Disks.{Facts, OnCalled}
 use Rattle.broker_model.proofs.Lists.{change_of, changes_so}
 use Rattle.broker_core.specs.declared.slot.PartState.{PartState}
@@ -24,9 +18,9 @@ use Rattle.edge_io.specs.Disk.{IsTold}
 use Rattle.broker_shards.specs.declared.part.PartAsk.{PartAsk}
 use Rattle.broker_shards.specs.declared.part.PartTold.{PartTold}
 use Rattle.broker_core.specs.Carried.{GoesOn, IsCall, IsPartCarried, OpenPart, PartGoesOn, Uses}
-use Rattle.broker_core.specs.Hosts.{AreApart, AreCarried, AreDistinct, AreOpen, Did, DidPart, DiskGoesOn, GoesOnIf, GoOn, Halts, HaltsSlot, HostsParts, IsOpenState, IsPartSlot, IsPartState, Leads, LeadsSlot, LogsLater, StaysHosted, among, counts_in, disks_in, ends_in, ends_over, facts_at, facts_in, foreign_disks, foreign_end, foreign_facts, hosted_slot, hosted_slots, open_disk, part_disk, slot_disks, slot_ends}
+use Rattle.broker_core.specs.Hosts.{AreApart, AreCarried, AreDistinct, AreOpen, DidPart, DiskGoesOn, GoesOnIf, Halts, HaltsSlot, HostsParts, IsOpenState, IsPartSlot, IsPartState, Leads, LeadsSlot, LogsLater, StaysOpen, among, counts_in, disks_in, ends_in, ends_over, facts_at, facts_in, foreign_disks, foreign_end, foreign_facts, hosted_slot, hosted_slots, open_disk, part_disk, slot_disks, slot_ends}
 use Rattle.broker_core.proofs.Flats.{among_changed, zip_flat}
-use Rattle.broker_core.proofs.Leading.{StillSlot, halts_still, open_still, parts_apart, parts_still, same_both, same_goes, slot_still, still_foreign}
+use Rattle.broker_core.proofs.Leading.{StillSlot, halts_still, open_still, parts_apart, parts_still, same_both, same_goes, slot_still, stays_same, still_foreign}
 use Rattle.broker_core.proofs.Reaching.{SlotLater, SlotReaches, names_later, names_reach, open_reaches, same_later, slot_later, slot_reaches, slots_reach}
 use Rattle.broker_core.proofs.Places.{Changed, changed, changes_all, changes_either, changes_not, changes_same, changes_zip, zip_same, zip_weaker}
 use Rattle.broker_core.proofs.Slots.{AreOf, Turns, are_of, called_same, slot_end_stays, slot_used, step_named}
@@ -101,21 +95,19 @@ module _ {D : Type 0} (seen : D → DiskView) where
   slot_same : (x : PartSlot D) → SlotGoesOn x x
   slot_same x = zip_same (DiskGoesOn seen) (same_goes seen) (slot_disks x)
 
-  pub turned_on : (old : HostsParts D) (ys : List (PartSlot D)) (n : ℕ) → ChangesAt n Turned old.parts ys
-      → GoOn seen (disks_in old) (disks_in (with_parts old ys))
-  turned_on old ys n c = record {
-    parts = zip_flat SlotGoesOn (DiskGoesOn seen) slot_disks slot_disks (λ x y z. z) old.parts ys
-        (changes_zip Turned SlotGoesOn slot_same slot_goes n old.parts ys c);
-    foreign = same_both seen (foreign_disks old.foreign);
-  }
-
-  pub turned_hosted : (old : HostsParts D) (ys : List (PartSlot D)) (n : ℕ) → ChangesAt n Turned old.parts ys → StaysHosted old (with_parts old ys)
-  turned_hosted old ys n c = record { hosted = changes_same hosted_slot Turned (λ x y t. t.turns.hosted) n old.parts ys c; topics = refl }
-
-  pub turned_open : (old : HostsParts D) (ys : List (PartSlot D)) (n : ℕ) → ChangesAt n Turned old.parts ys → AreOpen old → AreOpen (with_parts old ys)
-  turned_open old ys n c o = record {
-    parts = changes_all Turned (λ s. IsOpenState s.state) (λ x y t. subst IsOpenState (sym t.turns.new_is) tt) n old.parts ys c o.parts;
-    foreign = o.foreign;
+  pub turned_stays : (old : HostsParts D) (ys : List (PartSlot D)) (n : ℕ) → AreOpen old → ChangesAt n Turned old.parts ys
+      → StaysOpen seen old (with_parts old ys)
+  turned_stays old ys n o c = record {
+    disks = record {
+      parts = zip_flat SlotGoesOn (DiskGoesOn seen) slot_disks slot_disks (λ x y z. z) old.parts ys
+          (changes_zip Turned SlotGoesOn slot_same slot_goes n old.parts ys c);
+      foreign = same_both seen (foreign_disks old.foreign);
+    };
+    are_open = record {
+      parts = changes_all Turned (λ s. IsOpenState s.state) (λ x y t. subst IsOpenState (sym t.turns.new_is) tt) n old.parts ys c o.parts;
+      foreign = o.foreign;
+    };
+    hosted = record { hosted = changes_same hosted_slot Turned (λ x y t. t.turns.hosted) n old.parts ys c; topics = refl };
   }
 
   -- ---- a call that was done
@@ -390,20 +382,7 @@ module _ {D : Type 0} (seen : D → DiskView) where
   act_turns (Err fault) asked n now Whole xs ys ok (inl same) = inl same
   act_turns (Err fault) asked n now Whole xs ys ok (inr c) = inr (changes_so n (HaltsS now Whole) Turned (turned_halts now Whole) xs ys c)
 
-  pub either_way : (old : HostsParts D) (ys : List (PartSlot D)) (n : ℕ) → MayTurn n old.parts ys → (Q : HostsParts D → Type 0) → Q old
-      → (ChangesAt n Turned old.parts ys → Q (with_parts old ys)) → Q (with_parts old ys)
-  either_way old ys n (inl same) Q q f = subst (λ (zs : List (PartSlot D)). Q (with_parts old zs)) (sym same) q
-  either_way old ys n (inr changes) Q q f = f changes
-
-  -- ---- a heartbeat
-
-  pub beat_does : (counts : Counts) (ends : Ends) (now : ℕ) (part : Part) (request : HeartbeatRequest) → part ≡ Heartbeat request → (reply : HeartbeatReply)
-      → (a : Shards) (call : Option ShardCall) (b : Shards)
-      → (call ≡ Some (CallMembers (Beats request reply))) × StepsShards counts ends now a (CallMembers (Beats request reply)) b
-      → Did counts ends now part (AnswerHeartbeat reply) a call b
-  beat_does counts ends now part request is reply a call b d = (
-    CallMembers (Beats request reply),
-    d.0,
-    ap (λ (p : Part). Some (record { part = p; answer = AnswerHeartbeat reply })) (sym is),
-    d.1,
-  )
+  pub may_stay : (old : HostsParts D) (ys : List (PartSlot D)) (n : ℕ) → AreOpen old → MayTurn n old.parts ys
+      → StaysOpen seen old (with_parts old ys)
+  may_stay old ys n o (inl same) = subst (λ (zs : List (PartSlot D)). StaysOpen seen old (with_parts old zs)) (sym same) (stays_same seen old o)
+  may_stay old ys n o (inr changes) = turned_stays old ys n o changes

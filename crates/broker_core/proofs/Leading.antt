@@ -1,11 +1,13 @@
 -- Calls on shards, and what they lead to.
 use Rattle.std.specs.List.{AllZip, flat_map}
 use Rattle.std.specs.Prelude.{◌||◌}
-use Rattle.std.proofs.Common.{◌≡◌, ◌⊎◌, ◌↔◌, ◌≤◌, ◌+◌, [], ◌∷◌, arith, inl, inr, refl, sym, ap, ◌∙◌, subst, ℕ, List, Bool, true, false, cond, Some, None}
+use Rattle.std.proofs.Common.{◌≡◌, ◌⊎◌, ◌↔◌, ◌≤◌, ◌+◌, [], ◌∷◌, arith, inl, inr, refl, sym, ap, ◌∙◌, subst, ℕ, List, Bool, true, false, cond, Some, None, Result, Ok, Err}
 use Rattle.std.specs.declared.option.Option.{Option}
 use Rattle.edge_io.specs.declared.name.DiskPlace.TheVariants.{Log, StateA, StateB}
+use Rattle.edge_io.specs.Armed.{RunsOn}
 use Rattle.edge_io.specs.Causes.{Rose}
 use Rattle.edge_io.specs.Disk.{IsTold}
+use Rattle.flex_fields.specs.declared.fault.NoMemory.{NoMemory}
 use Rattle.share_model.specs.declared.fault.StoreFault.{StoreFault}
 use Rattle.share_model.specs.declared.fault.StoreFault.TheVariants.{Device, Full}
 use Rattle.share_model.specs.declared.foreign.ForeignOp.{ForeignOp}
@@ -13,25 +15,33 @@ use Rattle.share_model.specs.declared.foreign.ForeignAnswer.{ForeignAnswer}
 use Rattle.share_members.specs.Groups.{Memberships}
 use Rattle.share_coord.specs.Parts.{StoreParts}
 use Rattle.foreign_coord.specs.Once.{HasRisen}
-use Rattle.foreign_coord.specs.Shards.{ForeignShardState, Carries, StepsForeign}
-use Rattle.share_part.specs.Failures.{RunOnBoth}
+use Rattle.foreign_coord.specs.Shards.{ForeignShardState, StepsForeign}
 use Rattle.share_part.specs.Shards.{Carries as CarriesPart}
 use Rattle.broker_model.specs.Hosted.{Hosted, IsOneOf, first_of, foreign_store, has_disk, log_of, part_disks, same_name, second_of, state_a, state_b}
 use Rattle.broker_model.specs.Shards.{Counts, HostedPart, MembersCall, Shards, ShardCall, StepsMembers, StepsShards, rose_on}
 use Rattle.broker_model.specs.Shards.ShardCall.{CallForeign, CallMembers}
+use Rattle.broker_model.specs.Shards.MembersCall.{Beats, Ticks}
 use Rattle.broker_model.specs.Disks.{Facts, IsUsed, OnCalled, facts_of}
-use Rattle.call_fold.specs.declared.part.Part.TheVariants.{Foreign}
+use Rattle.call_fold.specs.declared.part.Part.{Part}
+use Rattle.call_fold.specs.declared.part.Part.TheVariants.{Foreign, Heartbeat}
 use Rattle.call_fold.specs.declared.part.PartAnswer.{PartAnswer}
-use Rattle.call_fold.specs.declared.part.PartAnswer.TheVariants.{Foreign as AnswerForeign}
+use Rattle.call_fold.specs.declared.part.PartAnswer.TheVariants.{Foreign as AnswerForeign, Heartbeat as AnswerHeartbeat}
+use Rattle.msgs_group.specs.declared.heartbeat_request.HeartbeatRequest.{HeartbeatRequest}
+use Rattle.msgs_group.specs.declared.heartbeat_reply.HeartbeatReply.{HeartbeatReply}
 use Rattle.broker_core.specs.declared.slot.ForeignSlot.{ForeignSlot}
 use Rattle.broker_core.specs.declared.slot.ForeignSlot.TheVariants as foreign
 use Rattle.broker_core.specs.declared.slot.PartState.{PartState}
 use Rattle.broker_core.specs.declared.slot.PartState.TheVariants as part
 use Rattle.broker_core.specs.declared.slot.PartSlot.{PartSlot}
-use Rattle.broker_core.specs.Carried.{HaltsForeign, IsCarried, LeadsForeign, GoesOn, OpenPart}
+use Rattle.broker_core.specs.Carried.{IsCarried, GoesOn, OpenPart}
+use Rattle.broker_shards.specs.Acts.{ActsOnMembers, AnswersForeign, AnswersMembers}
+use Rattle.broker_shards.specs.declared.members.MembersAsk.TheVariants as asks
+use Rattle.broker_shards.specs.declared.members.MembersTold.{MembersTold}
+use Rattle.broker_shards.specs.declared.members.MembersTold.TheVariants as tells
 use Rattle.broker_shards.specs.Hosts.{holding}
-use Rattle.broker_core.specs.Hosts.{AreApart, AreCarried, AreDistinct, BothGoOn, Did, DiskGoesOn, ForeignStill, GoesOnIf, GoOn, Halts, HostsParts, IsPartSlot, IsPartState, IsSlot, Leads, LeftDisks, LogsLater, NotIn, PartStill, PartsStill, StandStill, all_names, among, counts_in, disks_in, ends_in, ends_over, facts_at, facts_in, foreign_disks, foreign_end, foreign_facts, hosted_slot, hosted_slots, part_disk, slot_ends, slots_disks}
+use Rattle.broker_core.specs.Hosts.{AreApart, AreCarried, AreDistinct, AreOpen, BothGoOn, Did, DiskGoesOn, ForeignStill, GoesOnIf, GoOn, Halts, HaltsBy, HostsParts, IsPartSlot, IsPartState, IsSlot, Leads, LeadsBy, LeftDisks, LogsLater, NotIn, PartStill, PartsStill, StandStill, StaysOpen, all_names, among, counts_in, disks_in, ends_in, facts_at, facts_in, foreign_disks, foreign_end, foreign_facts, hosted_slot, hosted_slots, part_disk, slot_ends, slots_disks}
 use Rattle.broker_core.proofs.Opening.{carried_stands}
+use Rattle.broker_core.proofs.Parting.{answered_as, used_on}
 use Rattle.broker_core.proofs.Places.{zip_same, zip_weaker, apart_from, distinct_front, among_past, among_zip, not_both, one_in_either}
 use Rattle.broker_core.proofs.Reaching.{SlotLater, names_later, names_reach, reach_all, same_later, slot_reaches, slots_reach}
 use Rattle.broker_core.proofs.Reopens.{images_left}
@@ -66,60 +76,23 @@ not_a_part_too hosted d = apart_from (part_disks hosted) (state_a ∷ state_b �
 pub parts_apart : (hosted : List Hosted) → AreDistinct (all_names hosted) → AreDistinct (part_disks hosted)
 parts_apart hosted d = distinct_front (part_disks hosted) (state_a ∷ state_b ∷ []) d
 
+-- a heartbeat that was told so
+pub beats : (now : ℕ) (request : HeartbeatRequest) (reply : HeartbeatReply) (told : MembersTold) (old new : Memberships) → told ≡ tells.Heartbeat reply
+    → AnswersMembers now (asks.Heartbeat request) told old new → StepsMembers now old (Beats request reply) new
+beats now request reply told old new is a = subst (λ (t : MembersTold). AnswersMembers now (asks.Heartbeat request) t old new) is a
+
+-- a tick, which takes no memory
+pub ticks : (now : ℕ) (result : Result MembersTold NoMemory) (old new : Memberships) → ActsOnMembers now asks.Tick old result new
+    → StepsMembers now old Ticks new
+ticks now (Ok (tells.Ticked count)) old new a = a.0
+ticks now (Ok (tells.Heartbeat reply)) old new a = absurd a
+ticks now (Err fault) old new a = absurd a.0
+
 module _ {D : Type 0} (seen : D → DiskView) where
   -- ---- foreign state
 
   abbrev C : StoreParts D → ForeignShardState → Type 0
   C store s = IsCarried seen store s
-
-  abbrev Runs : StoreParts D → StoreParts D → Type 0
-  Runs old new = RunOnBoth seen old new
-
-  abbrev Acts : StoreParts D → StoreParts D → ForeignOp → ForeignAnswer → Type 0
-  Acts old new op answer = (t : ForeignShardState) → Carries seen old t → (n : ForeignShardState) × (fault : Option StoreFault) × Carries seen new n
-      × StepsForeign (HasRisen seen old new) old.journal.end t op answer fault n
-
-  pub act_leads : (old new : StoreParts D) (op : ForeignOp) (answer : ForeignAnswer) (s : ForeignShardState) → C old s → Acts old new op answer
-      → Runs old new → ((seen new.journal.first.disk).starved ≡ false) × ((seen new.journal.second.disk).starved ≡ false)
-      → LeadsForeign seen old s new op answer
-  act_leads old new op answer s k acts runs fed =
-      let r = acts s k.carries in
-      record {
-        after = r.0;
-        fault = r.1;
-        carried = record {
-          carries = r.2;
-          told = runs.0.told ∙ k.told;
-          second_told = runs.1.told ∙ k.second_told;
-          fed = fed.0;
-          second_fed = fed.1;
-        };
-        step = r.3;
-        used = record { losses = runs.0.same_losses; arms = runs.0.same_arms; spends = runs.0.spends k.told fed.0 };
-        second_used = record { losses = runs.1.same_losses; arms = runs.1.same_arms; spends = runs.1.spends k.second_told fed.1 };
-      }
-
-  pub act_halts : (old new : StoreParts D) (op : ForeignOp) (answer : ForeignAnswer) (s : ForeignShardState) → C old s → Acts old new op answer
-      → Runs old new → HaltsForeign seen old s new op
-  act_halts old new op answer s k acts runs =
-      let r = acts s k.carries in
-      record {
-        after = r.0;
-        carries = r.2;
-        does = inr (answer, r.1, r.3);
-        told = runs.0.told ∙ k.told;
-        second_told = runs.1.told ∙ k.second_told;
-      }
-
-  pub act_refused : (old new : StoreParts D) (op : ForeignOp) (s : ForeignShardState) → C old s
-      → ((t : ForeignShardState) → Carries seen old t → Carries seen new t) → Runs old new → HaltsForeign seen old s new op
-  act_refused old new op s k same runs = record {
-    after = s;
-    carries = same s k.carries;
-    does = inl refl;
-    told = runs.0.told ∙ k.told;
-    second_told = runs.1.told ∙ k.second_told;
-  }
 
   -- ---- hosts
 
@@ -284,7 +257,7 @@ module _ {D : Type 0} (seen : D → DiskView) where
   rose_second a b c d later rose = omega (arith, rose, later)
 
   module _ (old : HostsParts D) (was is : StoreParts D) (opened : old.foreign ≡ foreign.Open was) (apart : AreApart old)
-      (first_on : GoesOn seen was.journal.first.disk is.journal.first.disk) (second_on : GoesOn seen was.journal.second.disk is.journal.second.disk) where
+      (first_on : RunsOn seen was.journal.first.disk is.journal.first.disk) (second_on : RunsOn seen was.journal.second.disk is.journal.second.disk) where
     abbrev next : HostsParts D
     next = record { parts = old.parts; members = old.members; foreign = foreign.Open is }
 
@@ -395,49 +368,62 @@ module _ {D : Type 0} (seen : D → DiskView) where
     foreign_carried : (s : Shards) → K old s → C was s.foreign
     foreign_carried s k = subst (λ (f : ForeignSlot D). IsSlot seen f s.foreign) opened k.foreign
 
-    pub foreign_leads : (now : ℕ) (op : ForeignOp) (answer : ForeignAnswer)
-        → ((t : ForeignShardState) → C was t → LeadsForeign seen was t is op answer)
-        → (s : Shards) → K old s → L old s next (Did (N old next) (ends_over old next) now (Foreign op) (AnswerForeign answer))
-    foreign_leads now op answer leads s k =
-        let l = leads s.foreign (foreign_carried s k) in
-        record {
-          after = record { parts = s.parts; members = s.members; foreign = l.after };
-          call = Some (CallForeign op answer l.fault);
-          carried = record { parts = k.parts; members = k.members; foreign = l.carried };
-          does = (CallForeign op answer l.fault, refl, refl, (foreign_steps s.foreign l.after op answer l.fault l.step, refl, refl));
-          disks = foreign_disks_on l.used l.second_used;
-          ends = foreign_ends_on;
-          ends_later = foreign_later;
-        }
-
-    pub foreign_halts : (now : ℕ) (op : ForeignOp) → ((t : ForeignShardState) → C was t → HaltsForeign seen was t is op)
-        → (s : Shards) → K old s → H old s next (λ a call b. (answer : PartAnswer) × Did (N old next) (ends_over old next) now (Foreign op) answer a call b)
-    foreign_halts now op halts s k =
-        let h = halts s.foreign (foreign_carried s k) in
-        record {
-          after = record { parts = s.parts; members = s.members; foreign = h.after };
-          still = record {
-            parts = still_parts old.parts s.parts k.parts;
-            foreign = record {
-              stand = carried_stands seen is h.after h.carries;
-              told = h.told;
-              second_told = h.second_told;
+    module _ (now : ℕ) (op : ForeignOp) (part : Part) (is_asked : Some (Foreign op) ≡ Some part) (answer : ForeignAnswer)
+        (acts : AnswersForeign seen op answer was is) where
+      pub foreign_leads : ((seen is.journal.first.disk).starved ≡ false) × ((seen is.journal.second.disk).starved ≡ false)
+          → LeadsBy seen old next (λ counts ends. Did counts ends now part (AnswerForeign answer))
+      foreign_leads fed s k =
+          let t = foreign_carried s k in
+          let r = acts.steps s.foreign t.carries in
+          record {
+            after = record { parts = s.parts; members = s.members; foreign = r.0 };
+            call = Some (CallForeign op answer r.1);
+            carried = record {
+              parts = k.parts;
+              members = k.members;
+              foreign = record {
+                carries = r.2;
+                told = first_on.told ∙ t.told;
+                second_told = second_on.told ∙ t.second_told;
+                fed = fed.0;
+                second_fed = fed.1;
+              };
             };
-          };
-          ends_later = foreign_later;
-          reach = names_reach seen (λ n. n) refl next next (slots_reach seen (IsPartSlot seen) (slot_reaches seen) old.parts s.parts k.parts);
-          does = go h.after h.does;
-        }
-      where
-        go : (t : ForeignShardState) → (t ≡ s.foreign) ⊎ ((answer : ForeignAnswer) × (fault : Option StoreFault)
-            × StepsForeign (HasRisen seen was is) was.journal.end s.foreign op answer fault t)
-            → (record { parts = s.parts; members = s.members; foreign = t } ≡ s) ⊎ ((call : Option ShardCall) × ((answer : PartAnswer)
-            × Did (N old next) (ends_over old next) now (Foreign op) answer s call (record { parts = s.parts; members = s.members; foreign = t })))
-        go t (inl same) = inl (λ i. record { parts = s.parts; members = s.members; foreign = same i })
-        go t (inr d) = inr (
-          Some (CallForeign op d.0 d.1),
-          (AnswerForeign d.0, (CallForeign op d.0 d.1, refl, refl, (foreign_steps s.foreign t op d.0 d.1 d.2, refl, refl))),
-        )
+            does = (CallForeign op answer r.1, refl, answered_as (Foreign op) part (AnswerForeign answer) is_asked, (foreign_steps s.foreign r.0 op answer r.1 r.3, refl, refl));
+            disks = foreign_disks_on
+                (used_on seen was.journal.first.disk is.journal.first.disk first_on t.told fed.0)
+                (used_on seen was.journal.second.disk is.journal.second.disk second_on t.second_told fed.1);
+            ends = foreign_ends_on;
+            ends_later = foreign_later;
+          }
+
+      -- and where a disk found no memory, behind it
+      pub foreign_whole : HaltsBy seen old next (λ counts ends a call b. (answer : PartAnswer) × Did counts ends now part answer a call b)
+      foreign_whole s k =
+          let t = foreign_carried s k in
+          let r = acts.steps s.foreign t.carries in
+          record {
+            after = record { parts = s.parts; members = s.members; foreign = r.0 };
+            still = record {
+              parts = still_parts old.parts s.parts k.parts;
+              foreign = record {
+                stand = carried_stands seen is r.0 r.2;
+                told = first_on.told ∙ t.told;
+                second_told = second_on.told ∙ t.second_told;
+              };
+            };
+            ends_later = foreign_later;
+            reach = names_reach seen (λ n. n) refl next next (slots_reach seen (IsPartSlot seen) (slot_reaches seen) old.parts s.parts k.parts);
+            does = inr (
+              Some (CallForeign op answer r.1),
+              (AnswerForeign answer, (CallForeign op answer r.1, refl, answered_as (Foreign op) part (AnswerForeign answer) is_asked, (foreign_steps s.foreign r.0 op answer r.1 r.3, refl, refl))),
+            );
+          }
+
+    pub foreign_refused : (s : Shards) (P : Shards → Option ShardCall → Shards → Type 0) → is ≡ was → K old s → H old s next P
+    foreign_refused s P same k =
+        subst (λ (f : ForeignSlot D). H old s (record { parts = old.parts; members = old.members; foreign = f }) P)
+        (opened ∙ ap (λ (p : StoreParts D). foreign.Open p) (sym same)) (halts_still old s P k)
 
   -- ---- any disks
 
@@ -457,21 +443,38 @@ module _ {D : Type 0} (seen : D → DiskView) where
   pub go_on_same : (left : LeftDisks D) → GoOn seen left left
   go_on_same left = record { parts = zip_same (DiskGoesOn seen) same_goes left.parts; foreign = same_both left.foreign }
 
-  pub foreign_on : (old : HostsParts D) (was is : StoreParts D) → old.foreign ≡ foreign.Open was
-      → GoesOn seen was.journal.first.disk is.journal.first.disk → GoesOn seen was.journal.second.disk is.journal.second.disk
-      → GoOn seen (disks_in old) (disks_in (record { parts = old.parts; members = old.members; foreign = foreign.Open is }))
-  foreign_on old was is opened first second = record {
-    parts = zip_same (DiskGoesOn seen) same_goes (slots_disks old.parts);
-    foreign = subst (λ (f : ForeignSlot D). BothGoOn seen (foreign_disks f) (Some (is.journal.first.disk, is.journal.second.disk))) (sym opened)
-        (first, second);
+  pub stays_same : (hosts : HostsParts D) → AreOpen hosts → StaysOpen seen hosts hosts
+  stays_same hosts opened = record { disks = go_on_same (disks_in hosts); are_open = opened; hosted = record { hosted = refl; topics = refl } }
+
+  pub foreign_stays : (old : HostsParts D) (was is : StoreParts D) → AreOpen old → old.foreign ≡ foreign.Open was
+      → RunsOn seen was.journal.first.disk is.journal.first.disk → RunsOn seen was.journal.second.disk is.journal.second.disk
+      → StaysOpen seen old (record { parts = old.parts; members = old.members; foreign = foreign.Open is })
+  foreign_stays old was is o opened first second = record {
+    disks = record {
+      parts = zip_same (DiskGoesOn seen) same_goes (slots_disks old.parts);
+      foreign = subst (λ (f : ForeignSlot D). BothGoOn seen (foreign_disks f) (Some (is.journal.first.disk, is.journal.second.disk))) (sym opened)
+          (record { later = first.later; told = first.told }, record { later = second.later; told = second.told });
+    };
+    are_open = record { parts = o.parts; foreign = tt };
+    hosted = record { hosted = refl; topics = refl };
   }
 
   -- ---- the members of groups
 
+  abbrev with_members : HostsParts D → Memberships → HostsParts D
+  with_members old members = record { parts = old.parts; members = members; foreign = old.foreign }
+
+  pub members_stay : (old : HostsParts D) (members : Memberships) → AreOpen old → members.topics ≡ old.members.topics
+      → StaysOpen seen old (with_members old members)
+  members_stay old members o same = record {
+    disks = go_on_same (disks_in old);
+    are_open = record { parts = o.parts; foreign = o.foreign };
+    hosted = record { hosted = refl; topics = same };
+  }
+
   pub members_lead : (old : HostsParts D) (members : Memberships) (did : MembersCall) (now : ℕ) → StepsMembers now old.members did members
-      → (s : Shards) → K old s → L old s (record { parts = old.parts; members = members; foreign = old.foreign })
-      (λ a call b. (call ≡ Some (CallMembers did)) × StepsShards (N old (record { parts = old.parts; members = members; foreign = old.foreign })) (ends_over old (record { parts = old.parts; members = members; foreign = old.foreign })) now
-      a (CallMembers did) b)
+      → LeadsBy seen old (with_members old members)
+      (λ counts ends a call b. (call ≡ Some (CallMembers did)) × StepsShards counts ends now a (CallMembers did) b)
   members_lead old members did now steps s k = record {
     after = record { parts = s.parts; members = members; foreign = s.foreign };
     call = Some (CallMembers did);
@@ -482,7 +485,15 @@ module _ {D : Type 0} (seen : D → DiskView) where
     ends_later = λ name is. least (ends_in old name);
   }
 
+  pub members_beat : (old : HostsParts D) (members : Memberships) (now : ℕ) (request : HeartbeatRequest) (part : Part)
+      → Some (Heartbeat request) ≡ Some part → (reply : HeartbeatReply) → StepsMembers now old.members (Beats request reply) members
+      → LeadsBy seen old (with_members old members) (λ counts ends. Did counts ends now part (AnswerHeartbeat reply))
+  members_beat old members now request part is_asked reply steps s k =
+      leads_to old (with_members old members) s _ _
+      (λ a call b d. (CallMembers (Beats request reply), d.0, answered_as (Heartbeat request) part (AnswerHeartbeat reply) is_asked, d.1))
+      (members_lead old members (Beats request reply) now steps s k)
+
   pub members_halt : (hosts : HostsParts D) (members : Memberships) (s : Shards) (P : Shards → Option ShardCall → Shards → Type 0)
-      → members ≡ hosts.members → K hosts s → H hosts s (record { parts = hosts.parts; members = members; foreign = hosts.foreign }) P
+      → members ≡ hosts.members → K hosts s → H hosts s (with_members hosts members) P
   members_halt hosts members s P same k =
-      subst (λ (m : Memberships). H hosts s (record { parts = hosts.parts; members = m; foreign = hosts.foreign }) P) (sym same) (halts_still hosts s P k)
+      subst (λ (m : Memberships). H hosts s (with_members hosts m) P) (sym same) (halts_still hosts s P k)

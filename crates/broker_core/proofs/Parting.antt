@@ -1,5 +1,5 @@
 -- Acts of the shard of a hosted partition, and which parts they answer.
-use Rattle.std.proofs.Common.{◌≡◌, ◌≢◌, inl, inr, refl, sym, ap, ◌∙◌, subst, ℕ, List, Some, None, false}
+use Rattle.std.proofs.Common.{◌≡◌, ◌≢◌, ◌<◌, inl, inr, refl, sym, ap, ◌∙◌, subst, ℕ, List, Some, None, false}
 use Rattle.std.specs.declared.option.Option.{Option}
 use Rattle.edge_io.specs.Armed.{RunsOn}
 use Rattle.edge_io.specs.Disk.{IsTold}
@@ -25,8 +25,10 @@ use Rattle.broker_shards.specs.declared.part.PartAsk.TheVariants as asks
 use Rattle.broker_shards.specs.declared.part.PartTold.{PartTold}
 use Rattle.broker_shards.specs.declared.part.PartTold.TheVariants as tells
 use Rattle.broker_shards.proofs.Legal.{of_kind}
+use Rattle.broker_core.specs.declared.slot.PartSlot.{PartSlot}
+use Rattle.broker_core.specs.declared.slot.PartState.TheVariants as part
 use Rattle.broker_core.specs.Carried.{HaltsPart, IsCall, IsPartCarried, LeadsPart, OpenPart, PartGoesOn, Uses}
-use Rattle.broker_core.specs.Hosts.{DidPart}
+use Rattle.broker_core.specs.Hosts.{DidPart, HaltsSlot, IsThere, LeadsSlot}
 
 module _ {D : Type 0} (seen : D → DiskView) where
   abbrev Carried : PartConfParts → OpenPart D → PartShardState → Type 0
@@ -41,7 +43,7 @@ module _ {D : Type 0} (seen : D → DiskView) where
   abbrev Fed : OpenPart D → Type 0
   Fed new = ((seen new.log.journal.disk).starved ≡ false) × ((seen new.states.journal.first.disk).starved ≡ false) × ((seen new.states.journal.second.disk).starved ≡ false)
 
-  used_on : (old new : D) → RunsOn seen old new → IsTold (seen old).content → (seen new).starved ≡ false → IsUsed (facts_of seen old) (facts_of seen new)
+  pub used_on : (old new : D) → RunsOn seen old new → IsTold (seen old).content → (seen new).starved ≡ false → IsUsed (facts_of seen old) (facts_of seen new)
   used_on old new r told fed = record { losses = r.same_losses; arms = r.same_arms; spends = r.spends told fed }
 
   module _ (old new : OpenPart D) (goes : GoesOnPart seen holding old new) where
@@ -135,6 +137,38 @@ module _ {D : Type 0} (seen : D → DiskView) where
       second_told = goes.second.told ∙ k.second.told;
     }
 
+  -- ---- a slot whose shard acted
+
+  abbrev slot_with : PartSlot D → OpenPart D → PartSlot D
+  slot_with x is = record { topic = x.topic; conf = x.conf; state = part.Open is }
+
+  pub slot_leads : (now : ℕ) (did : PartCall) (x : PartSlot D) (was is : OpenPart D) → x.state ≡ part.Open was → GoesOnPart seen holding was is
+      → ((s : PartShardState) → Carried was.conf was s → LeadsPart seen was.conf now did was s is) → LeadsSlot seen now did x (slot_with x is)
+  slot_leads now did x was is opened goes leads = record {
+    was = was;
+    is = is;
+    old_is = opened;
+    new_is = refl;
+    topic = refl;
+    conf = refl;
+    goes = part_on was is goes;
+    leads = of_conf x.conf was (λ conf s. LeadsPart seen conf now did was s is) leads;
+  }
+
+  pub slot_halts : (now : ℕ) (Whole : PartCall → Type 0) (x : PartSlot D) (was is : OpenPart D) → x.state ≡ part.Open was
+      → GoesOnPart seen holding was is → ((s : PartShardState) → Carried was.conf was s → HaltsPart seen was.conf now Whole was s is)
+      → HaltsSlot seen now Whole x (slot_with x is)
+  slot_halts now Whole x was is opened goes halts = record {
+    was = was;
+    is = is;
+    old_is = opened;
+    new_is = refl;
+    topic = refl;
+    conf = refl;
+    goes = part_on was is goes;
+    halts = of_conf x.conf was (λ conf s. HaltsPart seen conf now Whole was s is) halts;
+  }
+
 -- ---- which parts they answer
 
 some_is : {A : Type 0} (a b : A) → Some a ≡ Some b → a ≡ b
@@ -150,6 +184,23 @@ call_fits asked told did c =
 
 abbrev answered : Part → PartAnswer → Option Answered
 answered part answer = Some (record { part = part; answer = answer })
+
+pub answered_as : (asked part : Part) (answer : PartAnswer) → Some asked ≡ Some part → answered asked answer ≡ answered part answer
+answered_as asked part answer e = λ i. answered (some_is asked part e i) answer
+
+-- a visit that is asked is of a shard that is there
+pub there_of : (count shard : ℕ) (asked : PartAsk) (part : Part) → part_asking shard asked ≡ Some part → shard < count → IsThere count part
+there_of count shard asked part e below = go asked e where
+  so : (x : Part) → Some x ≡ Some part → IsThere count x → IsThere count part
+  so x f there = subst (λ (p : Part). IsThere count p) (some_is x part f) there
+
+  go : (asked : PartAsk) → part_asking shard asked ≡ Some part → IsThere count part
+  go (asks.Visit visit) f = so (parts.Visit shard visit) f below
+  go (asks.Produce batch) f = so (parts.Produce shard batch) f tt
+  go (asks.Delete to) f = so (parts.Delete shard to) f tt
+  go (asks.Look group) f = so (parts.Look shard group) f tt
+  go (asks.Offer group) f = no_part part f
+  go asks.Expire f = no_part part f
 
 -- the part that asks this and the answer told are those of the call
 pub answers_part : (shard : ℕ) (asked : PartAsk) (told : PartTold) (did : PartCall) (part : Part) (answer : PartAnswer) → IsCall asked told did
@@ -175,15 +226,12 @@ answers_part shard asked told did part answer c p a = go did
 pub some_answer : (shard : ℕ) (asked : PartAsk) (did : PartCall) (part : Part) → asked ≡ asked_by (Calls did) → part_asking shard asked ≡ Some part
     → (answer : PartAnswer) × (answered_by_part shard did ≡ answered part answer)
 some_answer shard asked did part is p = go did (subst (λ (x : PartAsk). part_asking shard x ≡ Some part) is p) where
-  of_part : (x : Part) (y : PartAnswer) → Some x ≡ Some part → answered x y ≡ answered part y
-  of_part x y e = λ i. answered (some_is x part e i) y
-
   go : (did : PartCall) → part_asking shard (asked_by (Calls did)) ≡ Some part
       → (answer : PartAnswer) × (answered_by_part shard did ≡ answered part answer)
-  go (Visits visit told unread) e = (answers.Visit told, of_part (parts.Visit shard visit) (answers.Visit told) e)
-  go (Produces batch told) e = (answers.Produce told, of_part (parts.Produce shard batch) (answers.Produce told) e)
-  go (Looks group told) e = (answers.Look told, of_part (parts.Look shard group) (answers.Look told) e)
-  go (Deletes to told) e = (answers.Delete told, of_part (parts.Delete shard to) (answers.Delete told) e)
+  go (Visits visit told unread) e = (answers.Visit told, answered_as (parts.Visit shard visit) part (answers.Visit told) e)
+  go (Produces batch told) e = (answers.Produce told, answered_as (parts.Produce shard batch) part (answers.Produce told) e)
+  go (Looks group told) e = (answers.Look told, answered_as (parts.Look shard group) part (answers.Look told) e)
+  go (Deletes to told) e = (answers.Delete told, answered_as (parts.Delete shard to) part (answers.Delete told) e)
   go (Expires told) e = no_part part e
 
 -- what is asked to expire does an expiry, and tells its answer

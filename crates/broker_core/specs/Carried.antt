@@ -2,16 +2,11 @@
 -- For example a store of no keys whose write of `g1` failed at its last sync stands for a shard of no keys with the state of `g1` pending,
 -- and a partition whose append of a batch failed so for one with that batch pending.
 use Rattle.std.specs.Prelude.{◌≡◌, ◌≤◌, ◌⊎◌, ℕ, List, None, false, is_some, if◌then◌else◌}
-use Rattle.std.specs.declared.option.Option.{Option}
 use Rattle.edge_io.specs.Disk.{IsTold}
-use Rattle.share_model.specs.declared.fault.StoreFault.{StoreFault}
-use Rattle.share_model.specs.declared.foreign.ForeignAnswer.{ForeignAnswer}
-use Rattle.share_model.specs.declared.foreign.ForeignOp.{ForeignOp}
 use Rattle.share_model.specs.declared.visit.Then.{Then}
 use Rattle.share_coord.specs.Parts.{StoreParts}
 use Rattle.share_coord.specs.States.{states_of}
-use Rattle.foreign_coord.specs.Once.{HasRisen}
-use Rattle.foreign_coord.specs.Shards.{ForeignShardState, Carries as CarriesForeign, StepsForeign}
+use Rattle.foreign_coord.specs.Shards.{ForeignShardState, Carries as CarriesForeign}
 use Rattle.lock_index.specs.Windows.{WindowParts}
 use Rattle.share_part.specs.Hosting.{PartConfParts}
 use Rattle.part_log.specs.Logs.{log_in}
@@ -67,26 +62,6 @@ facts_by seen first second name = record {
   arms = by_name (seen first).arms (seen second).arms name;
   armed = by_name (seen first).armed (seen second).armed name;
 }
-
--- From the shard that the store stood for, it stands for one now to which this call led.
-pub record LeadsForeign {D : Type 0} (seen : D → DiskView) (old : StoreParts D) (shard : ForeignShardState)
-    (new : StoreParts D) (op : ForeignOp) (answer : ForeignAnswer) : Type 0 where
-  pub after : ForeignShardState
-  pub fault : Option StoreFault
-  pub carried : IsCarried seen new after
-  pub step : StepsForeign (HasRisen seen old new) old.journal.end shard op answer fault after
-  pub used : IsUsed (facts_of seen old.journal.first.disk) (facts_of seen new.journal.first.disk)
-  pub second_used : IsUsed (facts_of seen old.journal.second.disk) (facts_of seen new.journal.second.disk)
-
--- No memory was found: it was done in the shard, or not at all. The disks tell their contents still.
-pub record HaltsForeign {D : Type 0} (seen : D → DiskView)
-    (old : StoreParts D) (shard : ForeignShardState) (new : StoreParts D) (op : ForeignOp) : Type 0 where
-  pub after : ForeignShardState
-  pub carries : CarriesForeign seen new after
-  pub does : (after ≡ shard) ⊎ ((answer : ForeignAnswer) × (fault : Option StoreFault)
-      × StepsForeign (HasRisen seen old new) old.journal.end shard op answer fault after)
-  pub told : IsTold (seen new.journal.first.disk).content
-  pub second_told : IsTold (seen new.journal.second.disk).content
 
 -- ---- hosted partitions
 

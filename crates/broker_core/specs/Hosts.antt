@@ -51,7 +51,7 @@ pub record HostsParts (D : Type 0) : Type 0 where
   pub foreign : ForeignSlot D
 
 abbrev pub parts_of : {D : Type 0} → Hosts D → HostsParts D
-parts_of hosts = record { parts = hosts.parts.items; members = hosts.members; foreign = hosts.foreign }
+parts_of hosts = record { parts = hosts.parts.items; members = hosts.members.members; foreign = hosts.foreign }
 
 -- the partition of a slot, as the machine has it
 abbrev pub hosted_slot : {D : Type 0} → PartSlot D → Hosted
@@ -450,6 +450,12 @@ BothGoOn seen None new = Unit {0}
 pub record GoOn {D : Type 0} (seen : D → DiskView) (old new : LeftDisks D) : Type 0 where
   pub parts : AllZip (DiskGoesOn seen) old.parts new.parts
   pub foreign : BothGoOn seen old.foreign new.foreign
+
+-- What an event that loses no power leaves: each disk goes on, each shard can be called, and what is hosted stays.
+pub record StaysOpen {D : Type 0} (seen : D → DiskView) (old new : HostsParts D) : Type 0 where
+  pub disks : GoOn seen (disks_in old) (disks_in new)
+  pub are_open : AreOpen new
+  pub hosted : StaysHosted old new
 
 abbrev pub RoseIf : {D : Type 0} → (D → DiskView) → Option D → Option D → Type 0
 RoseIf seen (Some old) (Some new) = Rose (seen old).faults (seen new).faults

@@ -3,7 +3,7 @@ ghost use Rattle.std.specs.Prelude.{◌≡◌, ◌↔◌, IsTrue, IfSome, MatchO
 ghost use Rattle.edge_io.specs.Names.{IsTextPlace, IsTopicName, hosted_name};
 ghost use Rattle.broker_model.specs.Hosted.{HoldsAt, disks_of, part_disks};
 ghost use Rattle.broker_model.specs.Shards.{Shards};
-ghost use Rattle.broker_core.specs.Hosts.{AreApart, AreCarried, AreNamed, AreOpen, ArmsSlot, GoOn, IsOpen, IsOpenState, NotIn, StaysHosted, disks_in, hosted_slot, hosted_slots, parts_of};
+ghost use Rattle.broker_core.specs.Hosts.{AreApart, AreCarried, AreNamed, AreOpen, ArmsSlot, IsOpen, IsOpenState, NotIn, StaysOpen, hosted_slot, hosted_slots, parts_of};
 ghost use Rattle.broker_core.specs.Cores.{IsArmed};
 ghost use Rattle.broker_core.specs.Foreign.{ArmsForeign};
 
@@ -92,9 +92,7 @@ pub fn arm<D: Disk>(disk: &DiskName, after: u64, mode: FaultMode, hosts: &mut Ho
     requires named { AreNamed (hosted_slots hosts.old.parts.items) }
     ensures ok { (s : Shards) → AreCarried D.seen (parts_of hosts.old) s →
         IsArmed D.seen disk.now after mode (parts_of hosts.old) s (parts_of hosts.new) }
-    ensures disks { GoOn D.seen (disks_in (parts_of hosts.old)) (disks_in (parts_of hosts.new)) }
-    ensures open { AreOpen (parts_of hosts.new) }
-    ensures stays { StaysHosted (parts_of hosts.old) (parts_of hosts.new) }
+    ensures stays { StaysOpen D.seen (parts_of hosts.old) (parts_of hosts.new) }
 {
     match place_of(disk, &hosts.parts) {
         Some((number, place)) => arm_part(place, after, mode, &mut hosts.parts[number]),

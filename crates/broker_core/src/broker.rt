@@ -21,6 +21,7 @@ use crate::hosts::Hosts;
 use crate::power::lose_power;
 use crate::slot::{ForeignSlot, PartSlot};
 use crate::timers::{expire, tick};
+use broker_shards::MembersHost;
 use conn_core::Conn;
 use edge_io::{Bay, Disk};
 use session_script::{Event, Outcome};
@@ -77,7 +78,7 @@ fn take_hosts<D: Disk + Drop, B: Bay<D = D>>(
     match take_foreign(alloc, bay) {
         Ok(foreign) => Ok(Hosts {
             parts,
-            members,
+            members: MembersHost { members },
             foreign,
         }),
         Err(fault) => {

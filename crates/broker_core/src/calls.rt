@@ -6,17 +6,17 @@ ghost use Rattle.broker_shards.specs.Acts.{asked_by};
 ghost use Rattle.broker_shards.specs.Acts.PartDeed.{Calls};
 ghost use Rattle.broker_shards.specs.Histories.{IsToldOf};
 ghost use Rattle.broker_core.specs.Carried.{IsCall};
-ghost use Rattle.broker_core.specs.Hosts.{AreApart, AreOpen, AreOpenParts, DidPart, GoOn, HaltsBy, HaltsSlot, IsOpenState};
-ghost use Rattle.broker_core.specs.Hosts.{LeadsBy, LeadsSlot, StaysHosted, disks_in, parts_of};
+ghost use Rattle.broker_core.specs.Hosts.{AreApart, AreOpen, AreOpenParts, DidPart, HaltsBy, HaltsSlot, IsOpenState};
+ghost use Rattle.broker_core.specs.Hosts.{LeadsBy, LeadsSlot, StaysOpen, parts_of};
 
 use crate::hosts::Hosts;
-use crate::part::act;
 use crate::slot::{PartSlot, PartState};
-use broker_shards::{PartAsk, PartTold};
+use broker_shards::{PartAsk, PartTold, act_on_part};
 use edge_io::Disk;
 use share_model::NoMemory;
 use std::alloc::Global;
 
+// Does what is asked of the shard in a slot. Where a disk has found no memory, it answers want of memory.
 fn act_in<D: Disk>(
     alloc: Global,
     now: u64,
@@ -32,7 +32,13 @@ fn act_in<D: Disk>(
         (λ did. ask.now ≡ asked_by (Calls did)) slot.old slot.new) }
 {
     match &mut slot.state {
-        PartState::Open(part) => act(alloc, now, ask, part),
+        PartState::Open(part) => {
+            let told = act_on_part(alloc, now, ask, part)?;
+            if part.starved() {
+                return Err(NoMemory);
+            }
+            Ok(told)
+        }
         _ => unreachable!(),
     }
 }
@@ -80,9 +86,7 @@ pub fn act_at<D: Disk>(
         × DidPart counts ends now shard did a call b)) }
     ensures fits { IfOk result (IsToldOf ask.now) }
     ensures there { OnOk result (shard < length hosts.old.parts.items) }
-    ensures disks { GoOn D.seen (disks_in (parts_of hosts.old)) (disks_in (parts_of hosts.new)) }
-    ensures open { AreOpen (parts_of hosts.new) }
-    ensures stays { StaysHosted (parts_of hosts.old) (parts_of hosts.new) }
+    ensures stays { StaysOpen D.seen (parts_of hosts.old) (parts_of hosts.new) }
 {
     act_among(alloc, now, shard, ask, &mut hosts.parts)
 }

@@ -8,7 +8,7 @@ ghost use Rattle.conn_core.specs.Conns.{ConnParts, conn_after_bytes, without_rep
 ghost use Rattle.conn_core.specs.Turning.{Awaits, turn};
 ghost use Rattle.broker_model.specs.Machine.{Machine, named, opened, at_connection, conn_at, ended_in};
 ghost use Rattle.broker_model.specs.Steps.{Does, DoesTurn, Serves, replies_to};
-ghost use Rattle.broker_core.specs.Hosts.{AreApart, AreOpen, GoOn, HaltsBy, LeadsBy, StaysHosted, disks_in, parts_of};
+ghost use Rattle.broker_core.specs.Hosts.{AreApart, AreOpen, HaltsBy, LeadsBy, StaysOpen, parts_of};
 
 use crate::hosts::{Hosts, act};
 use crate::told::{fault_of_visit, told, visit_of};
@@ -61,9 +61,7 @@ fn ask<D: Disk>(
         (λ counts ends a call b. (outcomes : List Outcome) × (after : ConnParts)
         × Does counts ends id now (Next.Ask part) conn.old a b call outcomes after)) }
     ensures told { IfOk result (λ outcomes. All (IsTold conf.now.topics) outcomes.items) }
-    ensures disks { GoOn D.seen (disks_in (parts_of hosts.old)) (disks_in (parts_of hosts.new)) }
-    ensures open { AreOpen (parts_of hosts.new) }
-    ensures stays { StaysHosted (parts_of hosts.old) (parts_of hosts.new) }
+    ensures stays { StaysOpen D.seen (parts_of hosts.old) (parts_of hosts.new) }
 {
     let visit = visit_of(&part);
     let answer = act(alloc, now, part, hosts)?;
@@ -94,9 +92,7 @@ fn done<D: Disk>(
         (λ counts ends a call b. (outcomes : List Outcome) × (after : ConnParts)
         × Does counts ends id now next conn.old a b call outcomes after)) }
     ensures told { IfOk result (λ outcomes. All (IsTold conf.now.topics) outcomes.items) }
-    ensures disks { GoOn D.seen (disks_in (parts_of hosts.old)) (disks_in (parts_of hosts.new)) }
-    ensures open { AreOpen (parts_of hosts.new) }
-    ensures stays { StaysHosted (parts_of hosts.old) (parts_of hosts.new) }
+    ensures stays { StaysOpen D.seen (parts_of hosts.old) (parts_of hosts.new) }
 {
     match next {
         Next::Ask(part) => ask(alloc, conf, id, now, part, conn, hosts),
@@ -131,9 +127,7 @@ fn step<D: Disk>(
         × DoesTurn counts ends id now (turn conf.now conn.old) a b call outcomes after)) }
     ensures told { IfOk result (λ did. All (IsTold conf.now.topics) did.0.items) }
     ensures gone { IfOk result (λ did. did.1 ≡ is_gone conn.new) }
-    ensures disks { GoOn D.seen (disks_in (parts_of hosts.old)) (disks_in (parts_of hosts.new)) }
-    ensures open { AreOpen (parts_of hosts.new) }
-    ensures stays { StaysHosted (parts_of hosts.old) (parts_of hosts.new) }
+    ensures stays { StaysOpen D.seen (parts_of hosts.old) (parts_of hosts.new) }
 {
     let next = conn.next_part(conf)?;
     let outcomes = done(alloc, conf, id, now, next, conn, hosts)?;
@@ -170,9 +164,7 @@ pub fn serve<D: Disk>(
         × Serves conf.now counts ends (record { connections = clients.old.entries; shards = a }) id now
         (conn_at id clients.old.entries) call outcomes after)) }
     ensures told { IfOk result (λ outcomes. All (IsTold conf.now.topics) outcomes.items) }
-    ensures disks { GoOn D.seen (disks_in (parts_of hosts.old)) (disks_in (parts_of hosts.new)) }
-    ensures open { AreOpen (parts_of hosts.new) }
-    ensures stays { StaysHosted (parts_of hosts.old) (parts_of hosts.new) }
+    ensures stays { StaysOpen D.seen (parts_of hosts.old) (parts_of hosts.new) }
 {
     let Some(conn) = clients.get_mut(&id) else {
         return Ok(Vec::new(alloc));

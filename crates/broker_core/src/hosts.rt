@@ -4,15 +4,16 @@ ghost use Rattle.call_fold.specs.Parts.{IsAnswerTo};
 ghost use Rattle.call_fold.specs.declared.part.Part.{Part};
 ghost use Rattle.call_fold.specs.declared.part.PartAnswer.{PartAnswer};
 ghost use Rattle.broker_shards.specs.Answering.{part_asking};
-ghost use Rattle.broker_core.specs.Hosts.{AreApart, AreOpen, Did, GoOn, HaltsBy, IsThere, LeadsBy, StaysHosted, disks_in, parts_of};
+ghost use Rattle.broker_core.specs.Hosts.{AreApart, AreOpen, Did, HaltsBy, IsThere, LeadsBy, StaysOpen, parts_of};
 
 use crate::calls::act_at;
-use crate::shard::act as act_on_foreign;
 use crate::slot::{ForeignSlot, PartSlot};
-use broker_shards::{PartAsk, answer_of};
+use broker_shards::{
+    MembersAsk, MembersHost, MembersTold, PartAsk, ShardAsk, act_on_foreign, act_on_members,
+    answer_of, ask_of,
+};
 use conn_core::{Part, PartAnswer};
 use edge_io::Disk;
-use share_members::GroupShard;
 use share_model::NoMemory;
 use std::alloc::Global;
 
@@ -21,7 +22,7 @@ use std::alloc::Global;
 #[derive(Drop)]
 pub struct Hosts<D: Disk> {
     pub parts: Vec<PartSlot<D>>,
-    pub members: GroupShard,
+    pub members: MembersHost,
     pub foreign: ForeignSlot<D>,
 }
 
@@ -46,9 +47,7 @@ fn ask_part<D: Disk>(
     ensures fair { IfOk result (λ answer. (part : Part) → part_asking shard ask ≡ Some part →
         IsAnswerTo part answer) }
     ensures there { OnOk result (shard < length hosts.old.parts.items) }
-    ensures disks { GoOn D.seen (disks_in (parts_of hosts.old)) (disks_in (parts_of hosts.new)) }
-    ensures open { AreOpen (parts_of hosts.new) }
-    ensures stays { StaysHosted (parts_of hosts.old) (parts_of hosts.new) }
+    ensures stays { StaysOpen D.seen (parts_of hosts.old) (parts_of hosts.new) }
 {
     let told = act_at(alloc, now, shard, &ask, hosts)?;
     match answer_of(told) {
@@ -74,31 +73,26 @@ pub fn act<D: Disk>(
         × Did counts ends now part answer a call b)) }
     ensures fair { IfOk result (IsAnswerTo part) }
     ensures there { OnOk result (IsThere (length hosts.old.parts.items) part) }
-    ensures disks { GoOn D.seen (disks_in (parts_of hosts.old)) (disks_in (parts_of hosts.new)) }
-    ensures open { AreOpen (parts_of hosts.new) }
-    ensures stays { StaysHosted (parts_of hosts.old) (parts_of hosts.new) }
+    ensures stays { StaysOpen D.seen (parts_of hosts.old) (parts_of hosts.new) }
 {
-    match part {
-        Part::Foreign(op) => match &mut hosts.foreign {
+    match ask_of(part) {
+        ShardAsk::Part(shard, ask) => ask_part(alloc, now, shard, ask, hosts),
+        ShardAsk::Heartbeat(request) => {
+            let ask = MembersAsk::Heartbeat(request);
+            match act_on_members(now, &ask, &mut hosts.members.members)? {
+                MembersTold::Heartbeat(reply) => Ok(PartAnswer::Heartbeat(reply)),
+                MembersTold::Ticked(_) => unreachable!(),
+            }
+        }
+        ShardAsk::Foreign(op) => match &mut hosts.foreign {
             ForeignSlot::Open(shard) => {
                 let answer = act_on_foreign(&op, shard)?;
+                if shard.starved() {
+                    return Err(NoMemory);
+                }
                 Ok(PartAnswer::Foreign(answer))
             }
             _ => unreachable!(),
         },
-        Part::Produce { shard, batch } => ask_part(
-            alloc,
-            now,
-            shard,
-            PartAsk::Produce(batch),
-            hosts,
-        ),
-        Part::Delete { shard, to } => ask_part(alloc, now, shard, PartAsk::Delete(to), hosts),
-        Part::Visit { shard, visit } => ask_part(alloc, now, shard, PartAsk::Visit(visit), hosts),
-        Part::Look { shard, group } => ask_part(alloc, now, shard, PartAsk::Look(group), hosts),
-        Part::Heartbeat(request) => {
-            let reply = hosts.members.heartbeat(now, &request)?;
-            Ok(PartAnswer::Heartbeat(reply))
-        }
     }
 }

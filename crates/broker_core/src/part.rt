@@ -1,5 +1,5 @@
-// Acts, openings and restarts of the shard of a hosted partition on its three disks.
-ghost use Rattle.std.specs.Prelude.{◌≡◌, ◌≢◌, ◌⊎◌, ◌≤◌, ◌^◌, List, ℕ, true, false, Some, IfOk, IfErr, OnErr, MatchResult};
+// Openings and restarts of the shard of a hosted partition on its three disks.
+ghost use Rattle.std.specs.Prelude.{◌≡◌, ◌≢◌, ◌⊎◌, List, ℕ, false, Some, IfOk, IfErr, MatchResult};
 ghost use Rattle.edge_io.specs.declared.fault.Armed.TheVariants.{Nothing};
 ghost use Rattle.edge_io.specs.declared.name.DiskPlace.{DiskPlace};
 ghost use Rattle.edge_io.specs.Causes.{Rose};
@@ -9,51 +9,18 @@ ghost use Rattle.share_model.specs.ForeignRules.{ShareStates};
 ghost use Rattle.part_log.specs.Starts.{Log};
 ghost use Rattle.share_part.specs.Hosting.{ArePartText};
 ghost use Rattle.share_part.specs.Shards.{PartShardState};
-ghost use Rattle.broker_model.specs.Shards.{PartCall};
-ghost use Rattle.broker_shards.specs.Acts.{asked_by};
-ghost use Rattle.broker_shards.specs.Acts.PartDeed.{Calls};
 ghost use Rattle.broker_core.specs.Bays.{AreFed, IsOfDevice};
-ghost use Rattle.broker_core.specs.Carried.{GoesOn, HaltsPart, IsCall, IsFresh, IsPartCarried, LeadsPart, PartGoesOn};
+ghost use Rattle.broker_core.specs.Carried.{GoesOn, IsFresh, IsPartCarried};
 ghost use Rattle.broker_core.specs.Hosts.{PartStandsAlone};
 ghost use Rattle.broker_core.specs.Restarts.{IsOpenedPart, IsDamagedPart, IsRestartedPart, PartImagesStandAs, PartRunsOn};
 
 use crate::fault::{CoreOpen, lose};
 use crate::names::disk_name;
-use broker_shards::{PartAsk, PartTold, act_on_part};
 use edge_io::Disk;
-use share_model::{Name, NoMemory};
+use share_model::Name;
 use share_part::{PartConf, PartFault, PartShard};
 use std::alloc::Global;
 use window_runs::WindowRuns;
-
-// ---- acts
-
-/// Does what is asked of the shard of a partition, at this moment. Where a disk has found no memory, it answers want of
-/// memory.
-pub fn act<D: Disk>(
-    alloc: Global,
-    now: u64,
-    ask: &PartAsk,
-    part: &mut PartShard<D, WindowRuns>,
-) -> Result<PartTold, NoMemory>
-    requires now { now ≤ 2 ^ 62 }
-    requires call { (group : _) → ask.now ≢ PartAsk.Offer group }
-    ensures ok { IfOk result (λ told. (did : PartCall) × IsCall ask.now told did
-        × ((s : PartShardState) → IsPartCarried D.seen part.old.conf part.old s →
-        LeadsPart D.seen part.old.conf now did part.old s part.new)) }
-    ensures stopped { OnErr result ((s : PartShardState) → IsPartCarried D.seen part.old.conf part.old s →
-        HaltsPart D.seen part.old.conf now (λ did. ask.now ≡ asked_by (Calls did)) part.old s part.new) }
-    ensures disks { PartGoesOn D.seen part.old part.new }
-    ensures conf { part.new.conf ≡ part.old.conf }
-{
-    let told = act_on_part(alloc, now, ask, part)?;
-    if part.starved() {
-        return Err(NoMemory);
-    }
-    Ok(told)
-}
-
-// ---- openings
 
 // Why a partition was not opened, where none of its disks has found no memory.
 fn fault_of_open(topic: &Name, conf: &PartConf, fault: PartFault) -> CoreOpen

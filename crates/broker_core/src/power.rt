@@ -13,6 +13,7 @@ use crate::hosts::Hosts;
 use crate::part::restart_part;
 use crate::shard::restart;
 use crate::slot::{ForeignSlot, PartSlot, PartState};
+use broker_shards::MembersHost;
 use edge_io::Disk;
 use share_members::GroupShard;
 use std::alloc::Global;
@@ -100,7 +101,7 @@ pub fn lose_power<D: Disk + Drop>(
     requires open { AreOpen (parts_of hosts.old) }
     requires apart { AreApart (parts_of hosts.old) }
     requires named { AreNamed (hosted_slots hosts.old.parts.items) }
-    requires topics { hosts.old.members.topics ≡ conf.now.topics }
+    requires topics { hosts.old.members.members.topics ≡ conf.now.topics }
     ensures ok { OnOk result ((s : Shards) → AreCarried D.seen (parts_of hosts.old) s →
         AreReopened D.seen choice (parts_of hosts.old) s (parts_of hosts.new)) }
     ensures stopped { IfErr result (λ e. (s : Shards) → AreCarried D.seen (parts_of hosts.old) s →
@@ -117,6 +118,6 @@ pub fn lose_power<D: Disk + Drop>(
     let members = GroupShard::new(alloc, conf)?;
     lose_parts(alloc, choice, &mut hosts.parts)?;
     lose_foreign(alloc, choice, &mut hosts.foreign)?;
-    hosts.members = members;
+    hosts.members = MembersHost { members };
     Ok(())
 }

@@ -1,40 +1,21 @@
-// Calls, openings and restarts of the shard of foreign state on its two disks.
-ghost use Rattle.std.specs.Prelude.{◌≡◌, ◌≢◌, ◌⊎◌, List, ℕ, Bool, Some, All, IfOk, IfErr, OnErr, MatchResult, false};
+// Openings and restarts of the shard of foreign state on its two disks.
+ghost use Rattle.std.specs.Prelude.{◌≡◌, ◌≢◌, ◌⊎◌, List, ℕ, Bool, Some, IfOk, IfErr, MatchResult, false};
 ghost use Rattle.edge_io.specs.declared.fault.Armed.TheVariants.{Nothing};
 ghost use Rattle.edge_io.specs.Armed.{RunsOn};
 ghost use Rattle.edge_io.specs.Causes.{Rose};
 ghost use Rattle.edge_io.specs.Disk.{IsTold};
-ghost use Rattle.call_fold.specs.Parts.{IsTellable};
 ghost use Rattle.share_model.specs.ForeignRules.{ShareStates};
 ghost use Rattle.foreign_coord.specs.Shards.{ForeignShardState};
 ghost use Rattle.broker_model.specs.Machine.{StandForStates};
 ghost use Rattle.broker_core.specs.Bays.{IsOfDevice};
-ghost use Rattle.broker_core.specs.Carried.{AreFreshStates, IsCarried, LeadsForeign, HaltsForeign, GoesOn};
+ghost use Rattle.broker_core.specs.Carried.{AreFreshStates, IsCarried, GoesOn};
 ghost use Rattle.broker_core.specs.Restarts.{IsOpened, IsDamagedState, name_of, IsRestartedShard, IsNotRestarted, ImagesStandAs};
 
 use crate::fault::{CoreOpen, fault_of_call};
 use edge_io::{Disk, DiskName};
 use foreign_coord::ForeignShard;
 use share_coord::CoordOpen;
-use share_model::{ForeignAnswer, ForeignOp, NoMemory};
 use std::alloc::Global;
-
-/// Does a call on foreign state. Where a disk has found no memory, it answers want of memory.
-pub fn act<D: Disk>(op: &ForeignOp, shard: &mut ForeignShard<D>) -> Result<ForeignAnswer, NoMemory>
-    ensures ok { IfOk result (λ answer. (s : ForeignShardState) → IsCarried D.seen shard.old s →
-        LeadsForeign D.seen shard.old s shard.new op.now answer) }
-    ensures stopped { OnErr result ((s : ForeignShardState) → IsCarried D.seen shard.old s →
-        HaltsForeign D.seen shard.old s shard.new op.now) }
-    ensures tellable { IfOk result (λ answer. All IsTellable answer.runs) }
-    ensures first { GoesOn D.seen shard.old.journal.first.disk shard.new.journal.first.disk }
-    ensures second { GoesOn D.seen shard.old.journal.second.disk shard.new.journal.second.disk }
-{
-    let answer = shard.act(op)?;
-    if shard.starved() {
-        return Err(NoMemory);
-    }
-    Ok(answer)
-}
 
 // Why the store was not opened, where neither disk has found no memory.
 fn fault_of_open(fault: CoordOpen) -> CoreOpen

@@ -11,12 +11,12 @@ ghost use Rattle.broker_model.specs.Shards.ShardCall.{CallMembers};
 ghost use Rattle.broker_model.specs.Shards.MembersCall.{Ticks};
 ghost use Rattle.broker_model.specs.Shards.PartCall.{Expires};
 ghost use Rattle.broker_model.specs.Steps.{ExpiresAt};
-ghost use Rattle.broker_core.specs.Hosts.{AreApart, AreOpen, DidPart, ExpiresShard, GoOn, HaltsBy, LeadsBy, StaysHosted, disks_in, parts_of};
+ghost use Rattle.broker_core.specs.Hosts.{AreApart, AreOpen, DidPart, ExpiresShard, HaltsBy, LeadsBy, StaysOpen, parts_of};
 
 use crate::calls::act_at;
 use crate::hosts::Hosts;
 use crate::told::{fault_of_expiry, told};
-use broker_shards::{PartAsk, PartTold};
+use broker_shards::{MembersAsk, PartAsk, PartTold, act_on_members};
 use edge_io::Disk;
 use session_script::Outcome;
 use share_model::{ExpireAnswer, Name, NoMemory};
@@ -38,9 +38,7 @@ fn expire_at<D: Disk>(
     ensures stopped { OnErr result (HaltsBy D.seen (parts_of hosts.old) (parts_of hosts.new)
         (λ counts ends a call b. (answer : ExpireAnswer) × DidPart counts ends now shard (Expires answer) a call b)) }
     ensures there { OnOk result (shard < length hosts.old.parts.items) }
-    ensures disks { GoOn D.seen (disks_in (parts_of hosts.old)) (disks_in (parts_of hosts.new)) }
-    ensures open { AreOpen (parts_of hosts.new) }
-    ensures stays { StaysHosted (parts_of hosts.old) (parts_of hosts.new) }
+    ensures stays { StaysOpen D.seen (parts_of hosts.old) (parts_of hosts.new) }
 {
     let ask = PartAsk::Expire;
     let done = act_at(alloc, now, shard, &ask, hosts)?;
@@ -67,9 +65,7 @@ fn expire_shard<D: Disk>(
         × ExpiresShard counts ends now shard outcomes a call b)) }
     ensures told { IfOk result (λ outcomes. (topics : List Topic) → length hosts.old.parts.items ≡ partitions topics →
         All (IsTold topics) outcomes.items) }
-    ensures disks { GoOn D.seen (disks_in (parts_of hosts.old)) (disks_in (parts_of hosts.new)) }
-    ensures open { AreOpen (parts_of hosts.new) }
-    ensures stays { StaysHosted (parts_of hosts.old) (parts_of hosts.new) }
+    ensures stays { StaysOpen D.seen (parts_of hosts.old) (parts_of hosts.new) }
 {
     let answer = expire_at(alloc, now, shard, hosts)?;
     told(alloc, fault_of_expiry(shard, &answer))
@@ -99,9 +95,7 @@ pub fn expire<D: Disk>(
         (record { connections = connections; shards = a }) (shard_named topic.now part conf.now.topics) call outcomes
         (record { connections = connections; shards = b })))) }
     ensures told { IfOk result (λ outcomes. All (IsTold conf.now.topics) outcomes.items) }
-    ensures disks { GoOn D.seen (disks_in (parts_of hosts.old)) (disks_in (parts_of hosts.new)) }
-    ensures open { AreOpen (parts_of hosts.new) }
-    ensures stays { StaysHosted (parts_of hosts.old) (parts_of hosts.new) }
+    ensures stays { StaysOpen D.seen (parts_of hosts.old) (parts_of hosts.new) }
 {
     match conf.shard_of(topic.as_str(), part) {
         Some(shard) => expire_shard(alloc, shard, now, hosts),
@@ -114,9 +108,7 @@ pub fn tick<D: Disk>(now: u64, hosts: &mut Hosts<D>)
     requires open { AreOpen (parts_of hosts.old) }
     ensures ok { LeadsBy D.seen (parts_of hosts.old) (parts_of hosts.new)
         (λ counts ends a call b. (call ≡ Some (CallMembers Ticks)) × StepsShards counts ends now a (CallMembers Ticks) b) }
-    ensures disks { GoOn D.seen (disks_in (parts_of hosts.old)) (disks_in (parts_of hosts.new)) }
-    ensures open { AreOpen (parts_of hosts.new) }
-    ensures stays { StaysHosted (parts_of hosts.old) (parts_of hosts.new) }
+    ensures stays { StaysOpen D.seen (parts_of hosts.old) (parts_of hosts.new) }
 {
-    hosts.members.expire(now);
+    drop(act_on_members(now, &MembersAsk::Tick, &mut hosts.members.members));
 }

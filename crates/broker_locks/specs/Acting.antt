@@ -1,6 +1,6 @@
 -- What acts through the passes of one thread leave of them, and how a part of a connection is such an act. This project's own.
 -- For example a visit of shard 2 at 5000 is one entry of that thread's pass of the lock of shard 2, and no other pass of the thread changes.
-use Rattle.std.specs.Prelude.{◌≡◌, ◌++◌, ◌∷◌, ◌<◌, ℕ, zero, suc, List, [], Option, Some, None, Result, Ok, Err, slice_index_or, length}
+use Rattle.std.specs.Prelude.{◌≡◌, ◌++◌, ◌∷◌, ◌<◌, ℕ, zero, suc, List, [], Some, Result, Ok, Err, slice_index_or, length}
 use Rattle.std.specs.List.{AllZip}
 use Rattle.edge_io.specs.Views.{DiskView}
 use Rattle.flex_fields.specs.declared.fault.NoMemory.{NoMemory}
@@ -20,12 +20,12 @@ use Rattle.broker_shards.specs.declared.members.MembersAsk.TheVariants as member
 use Rattle.broker_shards.specs.declared.members.MembersEvent.{MembersEvent}
 use Rattle.broker_shards.specs.declared.members.MembersTold.{MembersTold}
 use Rattle.broker_shards.specs.declared.members.MembersTold.TheVariants as members_told
+use Rattle.broker_shards.specs.Answering.{answer_told}
 use Rattle.broker_shards.specs.Histories.{IsToldOf}
 use Rattle.broker_shards.specs.declared.part.PartAsk.{PartAsk}
 use Rattle.broker_shards.specs.declared.part.PartAsk.TheVariants as part_ask
 use Rattle.broker_shards.specs.declared.part.PartEvent.{PartEvent}
 use Rattle.broker_shards.specs.declared.part.PartTold.{PartTold}
-use Rattle.broker_shards.specs.declared.part.PartTold.TheVariants as part_told
 use Rattle.broker_locks.specs.Shared.{SharedParts, PassesParts}
 
 -- the passes are of these locks
@@ -80,15 +80,6 @@ pub record ActsByMembers {D : Type 0} (shared : SharedParts D) (event : MembersE
   pub members : ActsOn ActsMembers shared.members event answer old.members new.members
   pub parts : new.parts ≡ old.parts
   pub foreign : new.foreign ≡ old.foreign
-
--- what a partition told, as the answer to a part; no part asks for an expiry
-abbrev pub answer_told : PartTold → Option PartAnswer
-answer_told (part_told.Visit told) = Some (answers.Visit told)
-answer_told (part_told.Produce told) = Some (answers.Produce told)
-answer_told (part_told.Delete told) = Some (answers.Delete told)
-answer_told (part_told.Look told) = Some (answers.Look told)
-answer_told (part_told.Offer told) = None
-answer_told (part_told.Expire told) = None
 
 -- an answer of the kind that was asked, in numbers that a reply can say
 abbrev pub FitsAsk : PartAsk → PartAnswer → Type 0

@@ -12,7 +12,7 @@ ghost use Rattle.broker_locks.specs.Shared.{first_shards};
 
 use crate::shared::{Passes, ShardSet, Shared, lock_shards};
 use broker_core::{Core, CoreOpen, ForeignSlot, Hosts, PartSlot, PartState};
-use broker_shards::{ForeignHost, MembersHost, PartHost};
+use broker_shards::{ForeignHost, PartHost};
 use edge_io::{Bay, Disk};
 use share_model::NoMemory;
 use std::alloc::Global;
@@ -74,7 +74,7 @@ fn shards_in<D: Disk + Drop>(alloc: Global, hosts: Hosts<D>) -> Result<ShardSet<
     let parts = parts_in(alloc, parts)?;
     Ok(ShardSet {
         parts,
-        members: MembersHost { members },
+        members,
         foreign: foreign_of(foreign),
     })
 }

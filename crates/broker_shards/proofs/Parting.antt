@@ -42,7 +42,7 @@ use Rattle.call_fold.specs.declared.part.Produced.{Produced}
 use Rattle.broker_model.specs.Shards.{look_at, reads_log, result_of}
 use Rattle.broker_model.specs.Shards.PartCall.{Visits, Produces, Looks, Expires, Deletes}
 use Rattle.broker_model.proofs.Quiets.{steps_batch, steps_delete, steps_still, steps_visit}
-use Rattle.broker_shards.specs.Acts.{ActsOnPart, Answers, FindsNoMemory, GoesOnPart, LeavesUnused, offer_at}
+use Rattle.broker_shards.specs.Acts.{ActsOnPart, Answers, FindsNoMemory, GoesOnPart, LeavesUnused}
 use Rattle.broker_shards.specs.Acts.PartDeed.{Calls, Offers}
 use Rattle.broker_shards.specs.Crashes.{FoundWithin}
 use Rattle.broker_shards.specs.declared.part.PartAsk.{PartAsk}

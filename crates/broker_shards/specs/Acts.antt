@@ -14,9 +14,8 @@ use Rattle.share_model.specs.declared.offer.Offer.{Offer}
 use Rattle.share_model.specs.ForeignRules.{share_state_at}
 use Rattle.call_fold.specs.Parts.{HasTellableBase, HasTellableStart, IsTellable, IsTellableLook, IsTellableVisit}
 use Rattle.share_coord.specs.Parts.{StoreParts}
-use Rattle.edge_io.specs.Moments.{LeavesPairs}
 use Rattle.foreign_coord.specs.Once.{HasRisen}
-use Rattle.foreign_coord.specs.Shards.{ForeignShardState, IsFound, StepsForeign, Carries as CarriesForeign}
+use Rattle.foreign_coord.specs.Shards.{ForeignShardState, StepsForeign, Carries as CarriesForeign}
 use Rattle.share_members.specs.Groups.{Memberships}
 use Rattle.share_members.specs.Expiry.{removed}
 use Rattle.share_part.specs.Hosting.{PartConfParts, key_of}
@@ -39,7 +38,7 @@ use Rattle.broker_shards.specs.declared.part.PartAsk.TheVariants as asks
 use Rattle.broker_shards.specs.declared.part.PartEvent.{PartEvent}
 use Rattle.broker_shards.specs.declared.part.PartTold.{PartTold}
 use Rattle.broker_shards.specs.declared.part.PartTold.TheVariants as tells
-use Rattle.broker_shards.specs.Crashes.{FoundWithin}
+use Rattle.broker_shards.specs.Crashes.{FoundOnForeign, FoundWithin}
 use Rattle.broker_shards.specs.Hosts.{Host, holding}
 
 -- ---- hosted partitions
@@ -152,10 +151,15 @@ AnswersMembers now Tick (told_member.Heartbeat reply) old new = ⊥
 AnswersMembers now Tick (told_member.Ticked count) old new =
     StepsMembers now old Ticks new × (count ≡ min (removed new.clock old.groups) (2 ^ 64 - 1))
 
+-- a tick needs none
+abbrev pub MembersTakeMemory : MembersAsk → Type 0
+MembersTakeMemory (Heartbeat request) = ⊤
+MembersTakeMemory Tick = ⊥
+
 -- where no memory is found, nothing has changed
 abbrev pub ActsOnMembers : (now : ℕ) → MembersAsk → Memberships → Result MembersTold NoMemory → Memberships → Type 0
 ActsOnMembers now asked old (Ok told) new = AnswersMembers now asked told old new
-ActsOnMembers now asked old (Err fault) new = new ≡ old
+ActsOnMembers now asked old (Err fault) new = MembersTakeMemory asked × (new ≡ old)
 
 abbrev pub ActsMembers : MembersHost → MembersEvent → Result MembersTold NoMemory → MembersHost → Type 0
 ActsMembers old event result new = ActsOnMembers event.now event.ask old.members result new.members
@@ -174,13 +178,10 @@ abbrev pub ActsOnForeign : {D : Type 0} → (D → DiskView) → ForeignOp → S
 ActsOnForeign seen op old (Ok answer) new = AnswersForeign seen op answer old new
 ActsOnForeign seen op old (Err fault) new = new ≡ old
 
--- No power is lost and no fault armed on its disks, whose counts of faults don't fall. At each moment since the act began a crash finds the
--- states that were carried, with or without the pending write, or what the call leaves where it is granted.
+-- no power is lost and no fault armed on its disks, whose counts of faults don't fall
 pub record ActsForeign {D : Type 0} (seen : D → DiskView) (old : ForeignHost D) (event : ForeignEvent) (result : Result ForeignAnswer NoMemory)
     (new : ForeignHost D) : Type 0 where
   pub acts : ActsOnForeign seen event.op old.foreign result new.foreign
   pub first : RunsOn seen old.foreign.journal.first.disk new.foreign.journal.first.disk
   pub second : RunsOn seen old.foreign.journal.second.disk new.foreign.journal.second.disk
-  pub within : (s : ForeignShardState) → CarriesForeign seen old.foreign s → LeavesPairs seen
-      old.foreign.journal.first.disk new.foreign.journal.first.disk
-      old.foreign.journal.second.disk new.foreign.journal.second.disk (IsFound s event.op)
+  pub within : FoundOnForeign seen event.op old.foreign new.foreign

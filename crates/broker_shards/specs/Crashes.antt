@@ -5,12 +5,14 @@
 -- For example while a batch is produced, the log of three records is found with or without what was pending, or with the batch, and on the two
 -- disks of the tables nothing new is found.
 use Rattle.std.specs.Prelude.{◌⊎◌, ℕ, ℤ, List, Some, max}
-use Rattle.edge_io.specs.Moments.{LeavesOnly}
+use Rattle.edge_io.specs.Moments.{LeavesOnly, LeavesPairs}
 use Rattle.edge_io.specs.Views.{DiskView}
 use Rattle.share_model.specs.Held.{Held}
+use Rattle.share_model.specs.declared.foreign.ForeignOp.{ForeignOp}
 use Rattle.part_log.specs.Shards.{HasNoFault, HasRoomAt, HasRoomForMark, IsLogOf, at_end, log_at}
 use Rattle.part_log.specs.Starts.LogWrite.{Adds}
 use Rattle.share_coord.specs.Parts.{StoreParts}
+use Rattle.foreign_coord.specs.Shards.{ForeignShardState, IsFound, Carries as CarriesForeign}
 use Rattle.share_part.specs.Deleting.{IsFoundDeleting, IsToDelete}
 use Rattle.share_part.specs.Following.{HasNothingToWrite}
 use Rattle.share_part.specs.Once.{IsNothingDue}
@@ -66,3 +68,10 @@ FoundOnStates seen holding now asks.Expire old new =
 pub record FoundWithin {D W : Type 0} (seen : D → DiskView) (holding : W → Held) (now : ℕ) (asked : PartAsk) (old new : PartParts D W) : Type 0 where
   pub log : FoundOnLog seen holding asked old new
   pub states : FoundOnStates seen holding now asked old new
+
+-- At each moment of a call on foreign state a crash finds the states that were carried, with or without the pending write, or what the call
+-- leaves where it is granted.
+abbrev pub FoundOnForeign : {D : Type 0} → (D → DiskView) → ForeignOp → StoreParts D → StoreParts D → Type 0
+FoundOnForeign seen op old new = (s : ForeignShardState) → CarriesForeign seen old s → LeavesPairs seen
+    old.journal.first.disk new.journal.first.disk
+    old.journal.second.disk new.journal.second.disk (IsFound s op)

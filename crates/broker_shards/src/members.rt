@@ -48,10 +48,18 @@ fn heartbeat(
     }
 }
 
-fn tick(now: u64, members: &mut GroupShard) -> Result<MembersTold, NoMemory>
-    ensures { ActsOnMembers now MembersAsk.Tick members.old result members.new }
+/// Does what is asked of the members of all groups, at this moment. A tick takes no memory.
+pub fn act_on_members(
+    now: u64,
+    ask: &MembersAsk,
+    members: &mut GroupShard,
+) -> Result<MembersTold, NoMemory>
+    ensures { ActsOnMembers now ask.now members.old result members.new }
 {
-    Ok(MembersTold::Ticked(members.expire(now)))
+    match ask {
+        MembersAsk::Heartbeat(request) => heartbeat(now, request, members),
+        MembersAsk::Tick => Ok(MembersTold::Ticked(members.expire(now))),
+    }
 }
 
 impl Shard for MembersHost {
@@ -64,10 +72,6 @@ impl Shard for MembersHost {
     ghost acts = { ActsMembers };
 
     fn act(&mut self, event: &MembersEvent) -> Result<MembersTold, NoMemory> {
-        let now = event.now.ms();
-        match &event.ask {
-            MembersAsk::Heartbeat(request) => heartbeat(now, request, &mut self.members),
-            MembersAsk::Tick => tick(now, &mut self.members),
-        }
+        act_on_members(event.now.ms(), &event.ask, &mut self.members)
     }
 }

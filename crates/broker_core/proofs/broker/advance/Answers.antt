@@ -28,7 +28,7 @@ pub returns-in_err-send-in-Bytes-clause-disks : goal.returns-in_err-send-in-Byte
 returns-in_err-send-in-Bytes-clause-disks g c = go_on_same g.D.Disk.seen (disks_in (parts_of c.args.hosts.now))
 
 pub returns-in_err-outcomes-in-Step-clause-held : goal.returns-in_err-outcomes-in-Step-clause-held
-returns-in_err-outcomes-in-Step-clause-held g c = open_held (parts_of c.serve.new.hosts) c.serve.ensures.open
+returns-in_err-outcomes-in-Step-clause-held g c = open_held (parts_of c.serve.new.hosts) c.serve.ensures.stays.are_open
 
 pub returns-in_err-outcomes-in-Step-clause-stopped : goal.returns-in_err-outcomes-in-Step-clause-stopped
 returns-in_err-outcomes-in-Step-clause-stopped g c =
@@ -76,17 +76,17 @@ returns-in-Close-clause-disks g c = go_on_same g.D.Disk.seen (disks_in (parts_of
 pub returns-in_ok-outcomes-in-Step-clause-ok : goal.returns-in_ok-outcomes-in-Step-clause-ok
 returns-in_ok-outcomes-in-Step-clause-ok g c = advances_at g.D.Disk.seen (core_of c.args.conf.now c.args.clients.now.entries (parts_of c.args.hosts.now)) (Step c.in-Step.conn c.in-Step.now) c.args.event.now c.in_ok-outcomes-in-Step.outcomes.items c.in_ok-outcomes-in-Step.outcomes.items _
     c.in-Step.is refl
-    (steps g.D.Disk.seen (core_of c.args.conf.now c.args.clients.now.entries (parts_of c.args.hosts.now)) _ c.in-Step.conn c.in-Step.now c.in_ok-outcomes-in-Step.outcomes.items c.requires.whole c.serve.ensures.disks c.in_ok-outcomes-in-Step.ensures.ok)
+    (steps g.D.Disk.seen (core_of c.args.conf.now c.args.clients.now.entries (parts_of c.args.hosts.now)) _ c.in-Step.conn c.in-Step.now c.in_ok-outcomes-in-Step.outcomes.items c.requires.whole c.serve.ensures.stays.disks c.in_ok-outcomes-in-Step.ensures.ok)
 
 pub returns-in_ok-outcomes-in-Step-clause-held : goal.returns-in_ok-outcomes-in-Step-clause-held
-returns-in_ok-outcomes-in-Step-clause-held g c = open_held (parts_of c.serve.new.hosts) c.serve.ensures.open
+returns-in_ok-outcomes-in-Step-clause-held g c = open_held (parts_of c.serve.new.hosts) c.serve.ensures.stays.are_open
 
 pub returns-in-Arm-clause-ok : goal.returns-in-Arm-clause-ok
 returns-in-Arm-clause-ok g c = advances_at g.D.Disk.seen (core_of c.args.conf.now c.args.clients.now.entries (parts_of c.args.hosts.now)) (Arm c.in-Arm.disk c.in-Arm.after c.in-Arm.mode) c.args.event.now [] c.new-in-Arm.result.items _ c.in-Arm.is c.new-in-Arm.ensures.items
-    (arms_one g.D.Disk.seen (core_of c.args.conf.now c.args.clients.now.entries (parts_of c.args.hosts.now)) _ c.in-Arm.disk c.in-Arm.after c.in-Arm.mode c.requires.whole refl c.arm.ensures.disks c.arm.ensures.ok)
+    (arms_one g.D.Disk.seen (core_of c.args.conf.now c.args.clients.now.entries (parts_of c.args.hosts.now)) _ c.in-Arm.disk c.in-Arm.after c.in-Arm.mode c.requires.whole refl c.arm.ensures.stays.disks c.arm.ensures.ok)
 
 pub returns-in-Arm-clause-held : goal.returns-in-Arm-clause-held
-returns-in-Arm-clause-held g c = open_held (parts_of c.arm.new.hosts) c.arm.ensures.open
+returns-in-Arm-clause-held g c = open_held (parts_of c.arm.new.hosts) c.arm.ensures.stays.are_open
 
 pub returns-in_ok-lose_power-in-Power-clause-ok : goal.returns-in_ok-lose_power-in-Power-clause-ok
 returns-in_ok-lose_power-in-Power-clause-ok g c = advances_at g.D.Disk.seen (core_of c.args.conf.now c.args.clients.now.entries (parts_of c.args.hosts.now)) (Power c.in-Power.choice) c.args.event.now c.in_ok-outcomes-in-Power.outcomes.items c.in_ok-outcomes-in-Power.outcomes.items _
@@ -101,21 +101,21 @@ returns-in_err-outcomes-in-Expire-clause-stopped g c =
     (λ m k. stops_expire g.D.Disk.seen (core_of c.args.conf.now c.args.clients.now.entries (parts_of c.args.hosts.now)) _ m c.in-Expire.topic c.in-Expire.part c.in-Expire.now k (c.in_err-outcomes-in-Expire.ensures.stopped m.shards k.shards))
 
 pub returns-in_err-outcomes-in-Expire-clause-held : goal.returns-in_err-outcomes-in-Expire-clause-held
-returns-in_err-outcomes-in-Expire-clause-held g c = open_held (parts_of c.expire.new.hosts) c.expire.ensures.open
+returns-in_err-outcomes-in-Expire-clause-held g c = open_held (parts_of c.expire.new.hosts) c.expire.ensures.stays.are_open
 
 pub returns-in_ok-outcomes-in-Expire-clause-held : goal.returns-in_ok-outcomes-in-Expire-clause-held
-returns-in_ok-outcomes-in-Expire-clause-held g c = open_held (parts_of c.expire.new.hosts) c.expire.ensures.open
+returns-in_ok-outcomes-in-Expire-clause-held g c = open_held (parts_of c.expire.new.hosts) c.expire.ensures.stays.are_open
 
 pub returns-in_ok-outcomes-in-Expire-clause-ok : goal.returns-in_ok-outcomes-in-Expire-clause-ok
 returns-in_ok-outcomes-in-Expire-clause-ok g c = advances_at g.D.Disk.seen (core_of c.args.conf.now c.args.clients.now.entries (parts_of c.args.hosts.now)) (Expire c.in-Expire.topic c.in-Expire.part c.in-Expire.now) c.args.event.now c.in_ok-outcomes-in-Expire.outcomes.items c.in_ok-outcomes-in-Expire.outcomes.items _ c.in-Expire.is refl
-    (expires g.D.Disk.seen (core_of c.args.conf.now c.args.clients.now.entries (parts_of c.args.hosts.now)) _ c.in-Expire.topic c.in-Expire.part c.in-Expire.now c.in_ok-outcomes-in-Expire.outcomes.items c.requires.whole refl c.expire.ensures.disks c.in_ok-outcomes-in-Expire.ensures.ok)
+    (expires g.D.Disk.seen (core_of c.args.conf.now c.args.clients.now.entries (parts_of c.args.hosts.now)) _ c.in-Expire.topic c.in-Expire.part c.in-Expire.now c.in_ok-outcomes-in-Expire.outcomes.items c.requires.whole refl c.expire.ensures.stays.disks c.in_ok-outcomes-in-Expire.ensures.ok)
 
 pub returns-in-Tick-clause-ok : goal.returns-in-Tick-clause-ok
 returns-in-Tick-clause-ok g c = advances_at g.D.Disk.seen (core_of c.args.conf.now c.args.clients.now.entries (parts_of c.args.hosts.now)) (Tick c.in-Tick.now) c.args.event.now [] c.new-in-Tick.result.items _ c.in-Tick.is c.new-in-Tick.ensures.items
-    (ticks g.D.Disk.seen (core_of c.args.conf.now c.args.clients.now.entries (parts_of c.args.hosts.now)) _ c.in-Tick.now c.requires.whole refl c.tick.ensures.disks c.tick.ensures.ok)
+    (ticks g.D.Disk.seen (core_of c.args.conf.now c.args.clients.now.entries (parts_of c.args.hosts.now)) _ c.in-Tick.now c.requires.whole refl c.tick.ensures.stays.disks c.tick.ensures.ok)
 
 pub returns-in-Tick-clause-held : goal.returns-in-Tick-clause-held
-returns-in-Tick-clause-held g c = open_held (parts_of c.tick.new.hosts) c.tick.ensures.open
+returns-in-Tick-clause-held g c = open_held (parts_of c.tick.new.hosts) c.tick.ensures.stays.are_open
 
 pub serve-requires-clause-now : goal.serve-requires-clause-now
 serve-requires-clause-now g c = moment_at c.args.event.now (Step c.in-Step.conn c.in-Step.now) c.in-Step.is c.requires.moment

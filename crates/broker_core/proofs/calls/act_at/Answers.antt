@@ -1,9 +1,8 @@
-use Rattle.std.proofs.Common.{◌≡◌, refl}
+use Rattle.std.proofs.Common.{◌≡◌}
 use Rattle.broker_shards.specs.Acts.{asked_by}
 use Rattle.broker_shards.specs.Acts.PartDeed.{Calls}
-use Rattle.broker_core.specs.Hosts.{AreOpen, GoOn, LeadsSlot, StaysHosted, disks_in, parts_of}
-use Rattle.broker_core.proofs.Calling.{act_turns, either_way, part_halts, part_leads, turned_hosted, turned_on, turned_open}
-use Rattle.broker_core.proofs.Leading.{go_on_same}
+use Rattle.broker_core.specs.Hosts.{LeadsSlot, parts_of}
+use Rattle.broker_core.proofs.Calling.{act_turns, may_stay, part_halts, part_leads}
 use Rattle.broker_core.proofs.Parting.{call_fits}
 use Rattle.broker_core.proofs.Places.{changes_within}
 use Rattle.broker_core.proofs.Stepping.{ok_gives, ok_weaker, on_err_weaker}
@@ -32,23 +31,7 @@ returns-clause-there g c = ok_gives _ c.act_among.result
     (λ told p. changes_within (LeadsSlot g.D.Disk.seen c.args.now p.0) c.args.shard c.args.hosts.now.parts.items c.act_among.new.parts.items p.2)
     c.act_among.ensures.ok
 
-pub returns-clause-disks : goal.returns-clause-disks
-returns-clause-disks g c = either_way g.D.Disk.seen (parts_of c.args.hosts.now) c.act_among.new.parts.items c.args.shard
-    (act_turns g.D.Disk.seen c.act_among.result c.args.ask.now c.args.shard c.args.now (λ did. c.args.ask.now ≡ asked_by (Calls did))
-    c.args.hosts.now.parts.items c.act_among.new.parts.items c.act_among.ensures.ok c.act_among.ensures.stopped)
-    (λ h. GoOn g.D.Disk.seen (disks_in (parts_of c.args.hosts.now)) (disks_in h)) (go_on_same g.D.Disk.seen (disks_in (parts_of c.args.hosts.now)))
-    (turned_on g.D.Disk.seen (parts_of c.args.hosts.now) c.act_among.new.parts.items c.args.shard)
-
-pub returns-clause-open : goal.returns-clause-open
-returns-clause-open g c = either_way g.D.Disk.seen (parts_of c.args.hosts.now) c.act_among.new.parts.items c.args.shard
-    (act_turns g.D.Disk.seen c.act_among.result c.args.ask.now c.args.shard c.args.now (λ did. c.args.ask.now ≡ asked_by (Calls did))
-    c.args.hosts.now.parts.items c.act_among.new.parts.items c.act_among.ensures.ok c.act_among.ensures.stopped)
-    (λ h. AreOpen h) c.requires.open
-    (λ t. turned_open g.D.Disk.seen (parts_of c.args.hosts.now) c.act_among.new.parts.items c.args.shard t c.requires.open)
-
 pub returns-clause-stays : goal.returns-clause-stays
-returns-clause-stays g c = either_way g.D.Disk.seen (parts_of c.args.hosts.now) c.act_among.new.parts.items c.args.shard
+returns-clause-stays g c = may_stay g.D.Disk.seen (parts_of c.args.hosts.now) c.act_among.new.parts.items c.args.shard c.requires.open
     (act_turns g.D.Disk.seen c.act_among.result c.args.ask.now c.args.shard c.args.now (λ did. c.args.ask.now ≡ asked_by (Calls did))
     c.args.hosts.now.parts.items c.act_among.new.parts.items c.act_among.ensures.ok c.act_among.ensures.stopped)
-    (λ h. StaysHosted (parts_of c.args.hosts.now) h) (record { hosted = refl; topics = refl })
-    (turned_hosted g.D.Disk.seen (parts_of c.args.hosts.now) c.act_among.new.parts.items c.args.shard)

@@ -1,41 +1,33 @@
-use Rattle.std.proofs.Common.{◌≡◌, refl}
+use Rattle.std.proofs.Common.{◌≡◌, false}
 use Rattle.broker_shards.specs.Acts.{asked_by}
 use Rattle.broker_shards.specs.Acts.PartDeed.{Calls}
-use Rattle.broker_core.specs.Carried.{HaltsPart, LeadsPart}
-use Rattle.broker_core.proofs.Parting.{of_conf}
-use Rattle.broker_core.proofs.Stepping.{ok_weaker, on_err_weaker}
+use Rattle.broker_core.proofs.Parting.{act_leads, act_refused, act_whole, done, slot_halts, slot_leads}
+use Rattle.broker_core.proofs.Reopens.{fed_three}
+use Rattle.broker_core.proofs.Stepping.{on_err}
 use Rattle.broker_core.proofs.calls.act_in.Goals as goal
 
-pub returns-clause-ok : goal.returns-clause-ok
-returns-clause-ok g c = ok_weaker _ _ c.act.result
-    (λ told h. (
-      h.0,
-      h.1,
-      record {
-        was = c.in-Open.part;
-        is = c.act.new.part;
-        old_is = c.in-Open.is;
-        new_is = refl;
-        topic = refl;
-        conf = refl;
-        goes = c.act.ensures.disks;
-        leads = of_conf g.D.Disk.seen c.args.slot.now.conf c.in-Open.part
-            (λ conf s. LeadsPart g.D.Disk.seen conf c.args.now h.0 c.in-Open.part s c.act.new.part) h.2;
-      },
-    ))
-    c.act.ensures.ok
+pub returns-in_err-told-in-Open-clause-stopped : goal.returns-in_err-told-in-Open-clause-stopped
+returns-in_err-told-in-Open-clause-stopped g c =
+    let goes = c.act_on_part.ensures.goes_on in
+    on_err c.from_residual.result
+    (slot_halts g.D.Disk.seen c.args.now (λ did. c.args.ask.now ≡ asked_by (Calls did)) c.args.slot.now c.in-Open.part c.act_on_part.new.part c.in-Open.is goes
+    (act_refused g.D.Disk.seen c.in-Open.part c.act_on_part.new.part goes c.args.now c.args.ask.now c.in_err-told-in-Open.ensures.acts.1))
 
-pub returns-clause-stopped : goal.returns-clause-stopped
-returns-clause-stopped g c = on_err_weaker c.act.result
-    (λ h. record {
-      was = c.in-Open.part;
-      is = c.act.new.part;
-      old_is = c.in-Open.is;
-      new_is = refl;
-      topic = refl;
-      conf = refl;
-      goes = c.act.ensures.disks;
-      halts = of_conf g.D.Disk.seen c.args.slot.now.conf c.in-Open.part
-          (λ conf s. HaltsPart g.D.Disk.seen conf c.args.now (λ did. c.args.ask.now ≡ asked_by (Calls did)) c.in-Open.part s c.act.new.part) h;
-    })
-    c.act.ensures.stopped
+pub returns-then-starved-clause-stopped : goal.returns-then-starved-clause-stopped
+returns-then-starved-clause-stopped g c =
+    let goes = c.act_on_part.ensures.goes_on in
+    slot_halts g.D.Disk.seen c.args.now (λ did. c.args.ask.now ≡ asked_by (Calls did)) c.args.slot.now c.in-Open.part c.act_on_part.new.part c.in-Open.is goes
+    (act_whole g.D.Disk.seen c.in-Open.part c.act_on_part.new.part goes c.args.now c.args.ask.now c.in_ok-told-in-Open.told
+    (done g.D.Disk.seen c.in-Open.part c.act_on_part.new.part goes c.args.now c.args.ask.now c.in_ok-told-in-Open.told c.requires.call c.in_ok-told-in-Open.ensures.acts))
+
+pub returns-clause-ok : goal.returns-clause-ok
+returns-clause-ok g c =
+    let goes = c.act_on_part.ensures.goes_on in
+    let no : c.starved.result ≡ false = c.if-starved.false in
+    let d = done g.D.Disk.seen c.in-Open.part c.act_on_part.new.part goes c.args.now c.args.ask.now c.in_ok-told-in-Open.told c.requires.call c.in_ok-told-in-Open.ensures.acts in (
+      d.did,
+      d.is,
+      slot_leads g.D.Disk.seen c.args.now d.did c.args.slot.now c.in-Open.part c.act_on_part.new.part c.in-Open.is goes
+          (act_leads g.D.Disk.seen c.in-Open.part c.act_on_part.new.part goes c.args.now c.args.ask.now c.in_ok-told-in-Open.told d
+          c.act_on_part.ensures.unused (fed_three c.starved.result _ _ _ no c.starved.ensures)),
+    )

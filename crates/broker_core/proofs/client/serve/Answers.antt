@@ -5,7 +5,7 @@ use Rattle.broker_model.specs.Machine.{named, conn_at, left}
 use Rattle.broker_model.specs.Steps.{Serves}
 use Rattle.broker_core.specs.Hosts.{counts_in, disks_in, ends_over, parts_of}
 use Rattle.broker_core.proofs.Stepping.{on_err, left_at}
-use Rattle.broker_core.proofs.Leading.{go_on_same, halts_so, leads_to}
+use Rattle.broker_core.proofs.Leading.{halts_so, leads_to, stays_same}
 use Rattle.broker_core.proofs.client.serve.Goals as goal
 
 pub returns-in_err-outcomes-clause-stopped : goal.returns-in_err-outcomes-clause-stopped
@@ -43,5 +43,5 @@ returns-clause-ok g c =
     (sym found) (record { after = after; does = h; leaves = leaves }))
     (c.in_ok-outcomes.ensures.ok s k)
 
-pub returns-in_default-clause-disks : goal.returns-in_default-clause-disks
-returns-in_default-clause-disks g c = go_on_same g.D.Disk.seen (disks_in (parts_of c.args.hosts.now))
+pub returns-in_default-clause-stays : goal.returns-in_default-clause-stays
+returns-in_default-clause-stays g c = stays_same g.D.Disk.seen (parts_of c.args.hosts.now) c.requires.open

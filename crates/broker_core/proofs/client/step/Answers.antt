@@ -2,7 +2,7 @@ use Rattle.conn_core.specs.Turning.{turn}
 use Rattle.broker_core.specs.Hosts.{disks_in, ends_over, parts_of, counts_in}
 use Rattle.broker_core.proofs.Stepping.{on_err}
 use Rattle.broker_core.proofs.Clients.{does_turn}
-use Rattle.broker_core.proofs.Leading.{go_on_same, halts_so, halts_still, leads_to}
+use Rattle.broker_core.proofs.Leading.{halts_so, halts_still, leads_to, stays_same}
 use Rattle.broker_core.proofs.client.step.Goals as goal
 
 pub returns-in_err-outcomes-clause-stopped : goal.returns-in_err-outcomes-clause-stopped
@@ -31,5 +31,5 @@ returns-clause-ok g c = λ s k. leads_to g.D.Disk.seen
 pub returns-in_err-next-clause-stopped : goal.returns-in_err-next-clause-stopped
 returns-in_err-next-clause-stopped g c = on_err c.from_residual.result (λ s k. halts_still g.D.Disk.seen (parts_of c.args.hosts.now) s _ k)
 
-pub returns-in_err-next-clause-disks : goal.returns-in_err-next-clause-disks
-returns-in_err-next-clause-disks g c = go_on_same g.D.Disk.seen (disks_in (parts_of c.args.hosts.now))
+pub returns-in_err-next-clause-stays : goal.returns-in_err-next-clause-stays
+returns-in_err-next-clause-stays g c = stays_same g.D.Disk.seen (parts_of c.args.hosts.now) c.requires.open

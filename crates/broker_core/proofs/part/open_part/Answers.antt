@@ -1,4 +1,4 @@
-use Rattle.std.proofs.Common.{◌≡◌, ◌∙◌, ◌⊎◌, false, true, inl, inr, subst, sym, List, ℕ}
+use Rattle.std.proofs.Common.{◌≡◌, ◌∙◌, false, inl, inr, subst, sym, List, ℕ}
 use Rattle.std.proofs.lemmas.Bool.{false≢true}
 use Rattle.gate_journal.specs.Frames.{StandsAs}
 use Rattle.broker_core.proofs.Images.{reopened_images}

@@ -27,8 +27,8 @@ returns-in_err-members-clause-held g c = record {
 pub returns-in_err-lose_parts-clause-stopped : goal.returns-in_err-lose_parts-clause-stopped
 returns-in_err-lose_parts-clause-stopped g c =
     let err : c.from_residual-in_err-lose_parts.result ≡ Err c.in_err-lose_parts.field-0.0 = search rules in
-    err_at (λ e. (s : _) → AreCarried g.D.Disk.seen (parts_of c.args.hosts.now) s → Stopped g.D.Disk.seen (parts_of c.args.hosts.now) s (record { parts = c.lose_parts.new.parts.items; members = c.args.hosts.now.members; foreign = c.args.hosts.now.foreign }) e)
-    c.from_residual-in_err-lose_parts.result c.in_err-lose_parts.field-0.0 err (parts_stopped g.D.Disk.seen c.args.choice c.in_err-lose_parts.field-0.0 (parts_of c.args.hosts.now) (record { parts = c.lose_parts.new.parts.items; members = c.args.hosts.now.members; foreign = c.args.hosts.now.foreign }) c.in_err-lose_parts.ensures.stopped refl)
+    err_at (λ e. (s : _) → AreCarried g.D.Disk.seen (parts_of c.args.hosts.now) s → Stopped g.D.Disk.seen (parts_of c.args.hosts.now) s (record { parts = c.lose_parts.new.parts.items; members = c.args.hosts.now.members.members; foreign = c.args.hosts.now.foreign }) e)
+    c.from_residual-in_err-lose_parts.result c.in_err-lose_parts.field-0.0 err (parts_stopped g.D.Disk.seen c.args.choice c.in_err-lose_parts.field-0.0 (parts_of c.args.hosts.now) (record { parts = c.lose_parts.new.parts.items; members = c.args.hosts.now.members.members; foreign = c.args.hosts.now.foreign }) c.in_err-lose_parts.ensures.stopped refl)
 
 pub returns-in_err-lose_parts-clause-device : goal.returns-in_err-lose_parts-clause-device
 returns-in_err-lose_parts-clause-device g c = λ e.
@@ -41,7 +41,7 @@ returns-in_err-lose_parts-clause-never g c = λ f e.
     stopped_never g.D.Disk.seen c.args.choice c.in_err-lose_parts.field-0.0 c.args.hosts.now.parts.items c.lose_parts.new.parts.items c.in_err-lose_parts.ensures.stopped f (err_same c.in_err-lose_parts.field-0.0 (Reopen f) (sym err ∙ e)))
 
 pub returns-in_err-lose_parts-clause-disks : goal.returns-in_err-lose_parts-clause-disks
-returns-in_err-lose_parts-clause-disks g c = parts_stopped_on g.D.Disk.seen c.args.choice c.in_err-lose_parts.field-0.0 (parts_of c.args.hosts.now) (record { parts = c.lose_parts.new.parts.items; members = c.args.hosts.now.members; foreign = c.args.hosts.now.foreign }) c.in_err-lose_parts.ensures.stopped refl
+returns-in_err-lose_parts-clause-disks g c = parts_stopped_on g.D.Disk.seen c.args.choice c.in_err-lose_parts.field-0.0 (parts_of c.args.hosts.now) (record { parts = c.lose_parts.new.parts.items; members = c.args.hosts.now.members.members; foreign = c.args.hosts.now.foreign }) c.in_err-lose_parts.ensures.stopped refl
 
 pub returns-in_err-lose_parts-clause-held : goal.returns-in_err-lose_parts-clause-held
 returns-in_err-lose_parts-clause-held g c = record {
@@ -58,11 +58,11 @@ returns-in_err-lose_parts-clause-stays g c = record {
 pub returns-in_err-lose_foreign-clause-stopped : goal.returns-in_err-lose_foreign-clause-stopped
 returns-in_err-lose_foreign-clause-stopped g c =
     let err : c.from_residual-in_err-lose_foreign.result ≡ Err c.in_err-lose_foreign.field-0.0 = search rules in
-    err_at (λ e. (s : _) → AreCarried g.D.Disk.seen (parts_of c.args.hosts.now) s → Stopped g.D.Disk.seen (parts_of c.args.hosts.now) s (record { parts = c.lose_parts.new.parts.items; members = c.args.hosts.now.members; foreign = c.lose_foreign.new.slot }) e)
-    c.from_residual-in_err-lose_foreign.result c.in_err-lose_foreign.field-0.0 err (state_stopped g.D.Disk.seen c.args.choice c.in_err-lose_foreign.field-0.0 (parts_of c.args.hosts.now) (record { parts = c.lose_parts.new.parts.items; members = c.args.hosts.now.members; foreign = c.lose_foreign.new.slot }) c.in_ok-lose_parts.ensures.ok c.in_err-lose_foreign.ensures.stopped)
+    err_at (λ e. (s : _) → AreCarried g.D.Disk.seen (parts_of c.args.hosts.now) s → Stopped g.D.Disk.seen (parts_of c.args.hosts.now) s (record { parts = c.lose_parts.new.parts.items; members = c.args.hosts.now.members.members; foreign = c.lose_foreign.new.slot }) e)
+    c.from_residual-in_err-lose_foreign.result c.in_err-lose_foreign.field-0.0 err (state_stopped g.D.Disk.seen c.args.choice c.in_err-lose_foreign.field-0.0 (parts_of c.args.hosts.now) (record { parts = c.lose_parts.new.parts.items; members = c.args.hosts.now.members.members; foreign = c.lose_foreign.new.slot }) c.in_ok-lose_parts.ensures.ok c.in_err-lose_foreign.ensures.stopped)
 
 pub returns-in_err-lose_foreign-clause-disks : goal.returns-in_err-lose_foreign-clause-disks
-returns-in_err-lose_foreign-clause-disks g c = state_stopped_on g.D.Disk.seen c.args.choice c.in_err-lose_foreign.field-0.0 (parts_of c.args.hosts.now) (record { parts = c.lose_parts.new.parts.items; members = c.args.hosts.now.members; foreign = c.lose_foreign.new.slot }) c.in_ok-lose_parts.ensures.ok c.in_err-lose_foreign.ensures.stopped
+returns-in_err-lose_foreign-clause-disks g c = state_stopped_on g.D.Disk.seen c.args.choice c.in_err-lose_foreign.field-0.0 (parts_of c.args.hosts.now) (record { parts = c.lose_parts.new.parts.items; members = c.args.hosts.now.members.members; foreign = c.lose_foreign.new.slot }) c.in_ok-lose_parts.ensures.ok c.in_err-lose_foreign.ensures.stopped
 
 pub returns-in_err-lose_foreign-clause-held : goal.returns-in_err-lose_foreign-clause-held
 returns-in_err-lose_foreign-clause-held g c =

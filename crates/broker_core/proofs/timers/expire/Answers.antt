@@ -2,7 +2,7 @@ use Rattle.std.proofs.Common.{◌≡◌, Some, None, rules}
 use Rattle.topic_conf.specs.Topics.{shard_named}
 use Rattle.broker_core.specs.Hosts.{counts_in, disks_in, ends_over, parts_of}
 use Rattle.broker_core.proofs.Clients.{expired_at, none_told, not_expired}
-use Rattle.broker_core.proofs.Leading.{go_on_same, halts_so, leads_to, stays}
+use Rattle.broker_core.proofs.Leading.{halts_so, leads_to, stays, stays_same}
 use Rattle.broker_core.proofs.Stepping.{ok_weaker, on_err_weaker}
 use Rattle.broker_core.proofs.timers.expire.Goals as goal
 
@@ -34,8 +34,8 @@ returns-in-None-clause-ok g c =
     let none : shard_named c.args.topic.now c.args.part c.args.conf.now.topics ≡ None = search rules in
     λ s k. stays g.D.Disk.seen (parts_of c.args.hosts.now) s _ k (not_expired (counts_in g.D.Disk.seen (disks_in (parts_of c.args.hosts.now)) (disks_in (parts_of c.args.hosts.now))) (ends_over (parts_of c.args.hosts.now) (parts_of c.args.hosts.now)) c.args.now c.new.result.items _ none c.new.ensures.items s)
 
-pub returns-in-None-clause-disks : goal.returns-in-None-clause-disks
-returns-in-None-clause-disks g c = go_on_same g.D.Disk.seen (disks_in (parts_of c.args.hosts.now))
+pub returns-in-None-clause-stays : goal.returns-in-None-clause-stays
+returns-in-None-clause-stays g c = stays_same g.D.Disk.seen (parts_of c.args.hosts.now) c.requires.open
 
 pub returns-in-None-clause-told : goal.returns-in-None-clause-told
 returns-in-None-clause-told g c = none_told c.args.conf.now.topics c.new.result.items c.new.ensures.items
