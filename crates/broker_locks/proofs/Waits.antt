@@ -1,17 +1,17 @@
 -- Glances one after the other, and the calls of a watch as glances.
-use Rattle.std.proofs.Common.{◌≡◌, ◌≢◌, ◌∙◌, ◌≤◌, ◌<◌, ◌+◌, ◌⊎◌, ◌↔◌, ℕ, List, Option, Some, None, Bool, true, false, All, IfSome, IsTrue, [], ◌∷◌, ◌++◌, Ok, inl, inr, refl, sym, ap, subst, arith, append_assoc, append-nil}
-use Rattle.std.proofs.lemmas.List.Elements.{All-append, All-cons, All-nil}
-use Rattle.std.specs.List.{AllZip, Contains}
+use Rattle.std.proofs.Common.{◌≡◌, ◌≢◌, ◌∙◌, ◌≤◌, ◌<◌, ◌+◌, ◌⊎◌, ◌↔◌, ℕ, zero, suc, List, Option, Some, None, Bool, true, false, All, IfSome, IsTrue, [], ◌∷◌, ◌++◌, Ok, inl, inr, refl, sym, ap, subst, arith, append_assoc}
+use Rattle.std.proofs.lemmas.List.Elements.{All-append, All-cons, All-nil, All-weaker, Contains-append_left, Contains-append_right}
+use Rattle.std.specs.List.{AllZip, Contains, slice_index_or}
 use Rattle.std.specs.Io.KnownBytes.{IsAtEnd}
 use Rattle.edge_io.specs.Serving.{TellsMore}
 use Rattle.edge_io.specs.Views.{DiskView}
 use Rattle.edge_io.proofs.Telling.{tells_none, tells_then}
-use Rattle.futures.specs.declared.task.Poll.TheVariants.{Ready as IsReady, Pending}
+use Rattle.futures.specs.declared.task.Poll.TheVariants.{Ready as IsReady}
 use Rattle.share_model.specs.declared.offer.Offer.{Offer}
 use Rattle.share_model.specs.declared.offer.Offer.TheVariants.{Nothing}
 use Rattle.share_calls.specs.declared.wish.WaitWish.{WaitWish}
 use Rattle.fetch_wait.specs.Calls.{AreCalls}
-use Rattle.fetch_wait.specs.Polls.{ArePending, ArePoll, AreLooks, Polls, Waits, nothing_at, registered_all}
+use Rattle.fetch_wait.specs.Polls.{ArePoll, AreLooks, Polls, nothing_at, registered_all}
 use Rattle.fetch_wait.specs.declared.wait.WaitEnd.{WaitEnd}
 use Rattle.fetch_wait.specs.declared.wait.WaitEnd.TheVariants.{Ready, TimedOut, NoMemory}
 use Rattle.fetch_wait.specs.declared.watch.WatchCall.{WatchCall}
@@ -22,9 +22,9 @@ use Rattle.broker_shards.specs.Hosts.{Host}
 use Rattle.broker_shards.specs.declared.part.PartEvent.{PartEvent}
 use Rattle.broker_shards.specs.declared.part.PartTold.TheVariants as part_told
 use Rattle.broker_locks.specs.Acting.{AreOf, StayOf}
-use Rattle.broker_locks.specs.Looking.{LookerParts, LooksAt, LooksBy, looker_acts}
+use Rattle.broker_locks.specs.Looking.{LookerParts, LooksBy, SleepEnds, Sleeps, looker_acts}
 use Rattle.broker_locks.specs.Shared.{PartAnswer, PassesParts, SharedParts}
-use Rattle.broker_locks.specs.Waiting.{EndsWith, Glance, GlanceThrough, Glanced, Glances, HasFound, HasPassed, IsOn, IsWait, LooksAround, StopsWaiting, Waited, WaitsFor, WaitsUntil, asked_in, look_again, looked_by}
+use Rattle.broker_locks.specs.Waiting.{EndsWith, Glance, GlanceThrough, Glanced, Glances, HasFound, HasLeft, HasLooked, HasPassed, IsOn, IsOver, LooksAt, LooksThrough, StopsWaiting, WaitsFor, WaitsLong, asked_in, looked_by, peer_from}
 use Rattle.broker_locks.specs.Waiting.Glance.{asks, looks}
 use Rattle.broker_locks.proofs.Places.{place_stay, stays_same, stays_then, zip_same, zip_then, one_stays}
 
@@ -49,6 +49,14 @@ module _ {D : Type 0} (seen : D → DiskView) (shared : SharedParts D) (group : 
   through_then (looks shard offer ∷ xs) ys a b c p q = (p.0, p.1, through_then xs ys p.0 b c p.2 q)
   through_then (asks now ∷ xs) ys a b c p q = through_then xs ys a b c p q
 
+  pub look_stay : (shard : ℕ) (offer : Offer) (a b : Parts) → AllZip IsOf shared.parts a → LooksAt seen shared group shard offer a b
+      → AllZip IsOf shared.parts b × AllZip StaysSame a b
+  look_stay shard offer a b of (inl act) = place_stay (ActsPart seen) shared.parts shard (looked_by group) (Ok (part_told.Offer offer)) a b of act
+  look_stay shard offer a b of (inr none) = (
+    subst (λ (x : Parts). AllZip IsOf shared.parts x) (sym none.2) of,
+    subst (λ (x : Parts). AllZip StaysSame a x) (sym none.2) (zip_same StaysSame stays_same a),
+  )
+
   pub through_stay : (xs : List Glance) (a b : Parts) → AllZip IsOf shared.parts a → GlanceThrough seen shared group xs a b
       → AllZip IsOf shared.parts b × AllZip StaysSame a b
   through_stay [] a b of p = (
@@ -56,7 +64,7 @@ module _ {D : Type 0} (seen : D → DiskView) (shared : SharedParts D) (group : 
     subst (λ (x : Parts). AllZip StaysSame a x) (sym p) (zip_same StaysSame stays_same a),
   )
   through_stay (looks shard offer ∷ xs) a b of p =
-      let one = place_stay (ActsPart seen) shared.parts shard (looked_by group) (Ok (part_told.Offer offer)) a p.0 of p.1 in
+      let one = look_stay shard offer a p.0 of p.1 in
       let more = through_stay xs p.0 b one.0 p.2 in
       (more.0, zip_then StaysSame stays_then a p.0 b one.1 more.1)
   through_stay (asks now ∷ xs) a b of p = through_stay xs a b of p
@@ -145,17 +153,16 @@ module _ {D C : Type 0} (seen : D → DiskView) (told : C → Option (List ℕ))
   -- a look that tells this
   look_seen : (offer : Offer) (a b : Look) → IsAt a → IsAt b → b.clock ≡ a.clock → LooksBy seen shared wish.group wish.shards offer a.parts b.parts
       → (s : Seen a b) × (offer ≢ Nothing → HasFound s.glances)
-  look_seen offer a b at is clock (inl (shard, there, inl act)) = (
+  look_seen offer a b at is clock (inl (shard, there, l)) = (
     record {
       glances = looks shard offer ∷ [];
       at = is;
       on = All-cons (IsOn wish.shards) (looks shard offer) [] there (All-nil (IsOn wish.shards));
-      through = (b.parts, act, refl);
+      through = (b.parts, l, refl);
       asked = subst (λ (c : C). TellsMore (told a.clock) (told c) []) (sym clock) (tells_none (told a.clock));
     },
     λ some. ([], shard, offer, refl, some),
   )
-  look_seen offer a b at is clock (inl (shard, there, inr none)) = (seen_none a b at is none.1 clock, λ some. absurd (some none.0))
   look_seen offer a b at is clock (inr none) = (seen_none a b at is none.1 clock, λ some. absurd (some none.0))
 
   looks_by : (offer : Offer) (a b : Look) → IsAt a → LooksBy seen a.shared a.wish.group a.wish.shards offer a.parts b.parts
@@ -186,115 +193,35 @@ module _ {D C : Type 0} (seen : D → DiskView) (told : C → Option (List ℕ))
       let one = one_seen call a h.0 at h.1 in
       seen_then a h.0 b one (calls_seen calls h.0 b one.at h.2)
 
-  module _ (tells : Look → Option (List WatchCall)) (places deadline : ℕ) where
-    pub pending_seen : (mids : List Look) (a b : Look) → IsAt a → ArePending Acts tells places deadline mids a b → Seen a b
-    pending_seen [] a b at is = seen_none a b at (subst IsAt (sym is) at) (ap (λ (l : Look). l.parts) is) (ap (λ (l : Look). l.clock) is)
-    pending_seen (m ∷ mids) a b at h =
-        let one = calls_seen h.0.calls a m at h.0.does.acts_so in
-        seen_then a m b one (pending_seen mids m b one.at h.1)
+  -- what ended a sleep, as glances
+  sleep_ends : (left : Option (List ℕ)) (since deadline : ℕ) (end : Option WaitEnd) (calls : List WatchCall) (a b : Look) → IsAt a
+      → since + wish.wait_ms ≤ deadline → SleepEnds seen told left since deadline end calls → AreCalls Acts calls a b
+      → (s : Seen a b) × EndsWith seen shared wish left since end s.glances
+  sleep_ends left since deadline (Some (Ready place offer)) calls a b at from h does =
+      let split = last_of Acts h.0 (Looks place offer) a b (subst (λ (l : List WatchCall). AreCalls Acts l a b) h.1 does) in
+      let before = calls_seen h.0 a split.0 at split.1 in
+      let last = look_seen offer split.0 b before.at (at_still split.0 b before.at split.2.0) split.2.1 (looks_by offer split.0 b before.at split.2.2) in
+      (seen_then a split.0 b before last.0, found_behind before.glances last.0.glances (last.1 h.2))
+  sleep_ends left since deadline (Some (TimedOut now)) calls a b at from h does =
+      let split = last_of Acts h.0 (Asks now) a b (subst (λ (l : List WatchCall). AreCalls Acts l a b) h.1 does) in
+      let before = calls_seen h.0 a split.0 at split.1 in (
+        seen_then a split.0 b before (ask_seen now split.0 b before.at split.2),
+        (omega (arith, from, h.2), (asked_in before.glances, asked_append before.glances (asks now ∷ []))),
+      )
+  sleep_ends left since deadline (Some NoMemory) calls a b at from h does = (calls_seen calls a b at does, tt)
+  sleep_ends left since deadline None calls a b at from h does =
+      let split = last_of Acts h.0 (Asks h.1) a b (subst (λ (l : List WatchCall). AreCalls Acts l a b) h.2 does) in
+      let before = calls_seen h.0 a split.0 at split.1 in (
+        seen_then a split.0 b before (ask_seen h.1 split.0 b before.at split.2),
+        (h.1, h.3, (asked_in before.glances, asked_append before.glances (asks h.1 ∷ []))),
+      )
 
-    -- calls up to one that found something, or asked the clock
-    ends_looking : (end : WaitEnd) (front looked : List WatchCall) (a b : Look) → IsAt a → AreLooks places deadline looked (IsReady end)
-        → AreCalls Acts (front ++ looked) a b → (s : Seen a b) × EndsWith seen shared wish deadline end s.glances
-    ends_looking (Ready place offer) front looked a b at h calls =
-        let split = last_of Acts (front ++ nothing_at place) (Looks place offer) a b
-        (subst (λ (l : List WatchCall). AreCalls Acts l a b)
-        (ap (λ (l : List WatchCall). front ++ l) h.2 ∙ sym (append_assoc front (nothing_at place) (Looks place offer ∷ []))) calls) in
-        let before = calls_seen (front ++ nothing_at place) a split.0 at split.1 in
-        let last = look_seen offer split.0 b before.at (at_still split.0 b before.at split.2.0) split.2.1 (looks_by offer split.0 b before.at split.2.2) in
-        (seen_then a split.0 b before last.0, found_behind before.glances last.0.glances (last.1 h.1))
-    ends_looking (TimedOut now) front looked a b at h calls =
-        let split = last_of Acts (front ++ nothing_at places) (Asks now) a b
-        (subst (λ (l : List WatchCall). AreCalls Acts l a b)
-        (ap (λ (l : List WatchCall). front ++ l) h.1 ∙ sym (append_assoc front (nothing_at places) (Asks now ∷ []))) calls) in
-        let before = calls_seen (front ++ nothing_at places) a split.0 at split.1 in
-        (seen_then a split.0 b before (ask_seen now split.0 b before.at split.2), (h.0, (asked_in before.glances, asked_append before.glances (asks now ∷ []))))
-    ends_looking NoMemory front looked a b at h calls = absurd h
-
-    last_seen : (end : WaitEnd) (calls : List WatchCall) (a b : Look) → IsAt a → ArePoll places deadline calls (IsReady end) → AreCalls Acts calls a b
-        → (s : Seen a b) × EndsWith seen shared wish deadline end s.glances
-    last_seen (Ready place offer) calls a b at (ArePoll.Refused is refused) h = absurd (let bad : ◌≡◌ {A = WaitEnd} (Ready place offer) NoMemory = cc in cc)
-    last_seen (TimedOut now) calls a b at (ArePoll.Refused is refused) h = absurd (let bad : ◌≡◌ {A = WaitEnd} (TimedOut now) NoMemory = cc in cc)
-    last_seen NoMemory calls a b at (ArePoll.Refused is refused) h = (calls_seen calls a b at h, tt)
-    last_seen end calls a b at (ArePoll.Looked looked fits is) h =
-        ends_looking end (registered_all places deadline) looked a b at fits (subst (λ (l : List WatchCall). AreCalls Acts l a b) is h)
-
-    -- a whole wait
-    pub wait_seen : (end : WaitEnd) (a b : Look) → IsAt a → Waits Acts tells places deadline a end b
-        → (s : Seen a b) × EndsWith seen shared wish deadline end s.glances
-    wait_seen end a b at w =
-        let before = pending_seen w.mids a w.last at w.pending in
-        let last = last_seen end w.ends.calls w.last b before.at w.ends.poll w.ends.does.acts_so in
-        (seen_then a w.last b before last.0, ends_behind end before.glances last.0.glances last.1)
-      where
-        ends_behind : (e : WaitEnd) (xs ys : List Glance) → EndsWith seen shared wish deadline e ys → EndsWith seen shared wish deadline e (xs ++ ys)
-        ends_behind (Ready place offer) xs ys h = found_behind xs ys h
-        ends_behind (TimedOut now) xs ys h =
-            (h.0, (asked_in xs ++ h.1.0, asked_append xs ys ∙ (ap (λ (l : List ℕ). asked_in xs ++ l) h.1.1 ∙ sym (append_assoc (asked_in xs) h.1.0 (now ∷ [])))))
-        ends_behind NoMemory xs ys h = tt
-
--- ---- looks around
-
-module _ {D : Type 0} (seen : D → DiskView) (shared : SharedParts D) (wish : WaitWish) where
-  pub around_none : (a : PassesParts D) → LooksAround seen shared wish Nothing a a
-  around_none a = record {
-    glances = [];
-    on = All-nil (IsOn wish.shards);
-    does = record { parts = refl; members = refl; foreign = refl };
-    unasked = refl;
-    finds = λ some. absurd (some refl);
-  }
-
-  pub around_then : (offer : Offer) (a b c : PassesParts D) → LooksAround seen shared wish Nothing a b → LooksAround seen shared wish offer b c
-      → LooksAround seen shared wish offer a c
-  around_then offer a b c p q = record {
-    glances = p.glances ++ q.glances;
-    on = All-append (IsOn wish.shards) p.glances q.glances p.on q.on;
-    does = glances_then seen shared wish.group p.glances q.glances a b c p.does q.does;
-    unasked = asked_append p.glances q.glances ∙ ap (λ (l : List ℕ). l ++ asked_in q.glances) p.unasked ∙ q.unasked;
-    finds = λ some. found_behind p.glances q.glances (q.finds some);
-  }
-
-  around_one : (offer : Offer) (a b : PassesParts D) (shard : ℕ) → Contains wish.shards shard → LooksAt seen shared wish.group shard offer a.parts b.parts
-      → b.members ≡ a.members → b.foreign ≡ a.foreign → LooksAround seen shared wish offer a b
-  around_one offer a b shard there (inl act) members foreign = record {
-    glances = looks shard offer ∷ [];
-    on = All-cons (IsOn wish.shards) (looks shard offer) [] there (All-nil (IsOn wish.shards));
-    does = record { parts = (b.parts, act, refl); members = members; foreign = foreign };
-    unasked = refl;
-    finds = λ some. ([], shard, offer, refl, some);
-  }
-  around_one offer a b shard there (inr none) members foreign = record {
-    glances = [];
-    on = All-nil (IsOn wish.shards);
-    does = record { parts = none.1; members = members; foreign = foreign };
-    unasked = refl;
-    finds = λ some. absurd (some none.0);
-  }
-
-  pub looked_around : (offer : Offer) (a b : PassesParts D) → LooksBy seen shared wish.group wish.shards offer a.parts b.parts → b.members ≡ a.members
-      → b.foreign ≡ a.foreign → LooksAround seen shared wish offer a b
-  looked_around offer a b (inl (shard, there, l)) members foreign = around_one offer a b shard there l members foreign
-  looked_around offer a b (inr none) members foreign = record {
-    glances = [];
-    on = All-nil (IsOn wish.shards);
-    does = record { parts = none.1; members = members; foreign = foreign };
-    unasked = refl;
-    finds = λ some. absurd (some none.0);
-  }
-
-  pub around_stay : (offer : Offer) (a b : PassesParts D) → AreOf shared a → LooksAround seen shared wish offer a b → StayOf shared a b
-  around_stay offer a b of l = glances_stay seen shared wish.group l.glances a b of l.does
-
--- ---- a wait until a deadline
-
-module _ {D C : Type 0} (seen : D → DiskView) (told : C → Option (List ℕ)) (shared : SharedParts D) (wish : WaitWish) where
-  pub waited_until : (tells : LookerParts D C → Option (List WatchCall)) (places deadline : ℕ) (end : WaitEnd) (a b : LookerParts D C) (p q : PassesParts D)
-      → IsAt seen told shared wish a → a.parts ≡ p.parts → b.parts ≡ q.parts → q.members ≡ p.members → q.foreign ≡ p.foreign
-      → Waits (looker_acts seen told) tells places deadline a end b
-      → WaitsUntil seen shared wish deadline end p q (told a.clock) (told b.clock)
-  waited_until tells places deadline end a b p q at from to members foreign w =
-      let s = wait_seen seen told shared wish tells places deadline end a b at w in
+  pub slept : (left : Option (List ℕ)) (since deadline : ℕ) (end : Option WaitEnd) (a b : Look) (p q : PassesParts D)
+      → IsAt a → since + wish.wait_ms ≤ deadline → a.parts ≡ p.parts → b.parts ≡ q.parts → q.members ≡ p.members → q.foreign ≡ p.foreign
+      → Sleeps seen told left since deadline end a b
+      → WaitsLong seen shared wish left since end p q (told a.clock) (told b.clock)
+  slept left since deadline end a b p q at is from to members foreign w =
+      let s = sleep_ends left since deadline end w.calls a b at is w.ends w.does in
       record {
         glances = s.0.glances;
         does = record {
@@ -310,130 +237,219 @@ module _ {D C : Type 0} (seen : D → DiskView) (told : C → Option (List ℕ))
         ends = s.1;
       }
 
+-- ---- a sleep
+
+pub calls_then : {W C : Type 0} (acts : W → C → W → Type 0) (xs ys : List C) (a b c : W) → AreCalls acts xs a b → AreCalls acts ys b c
+    → AreCalls acts (xs ++ ys) a c
+calls_then acts [] ys a b c p q = subst (λ w. AreCalls acts ys w c) p q
+calls_then acts (x ∷ xs) ys a b c p q = (p.0, p.1, calls_then acts xs ys p.0 b c p.2 q)
+
+-- the last of the calls of a poll, behind others
+behind : (xs ys zs : List WatchCall) (x : WatchCall) → xs ++ (ys ++ (zs ++ x ∷ [])) ≡ (xs ++ (ys ++ zs)) ++ x ∷ []
+behind xs ys zs x = sym (append_assoc xs (ys ++ zs) (x ∷ []) ∙ ap (λ (l : List WatchCall). xs ++ l) (append_assoc ys zs (x ∷ [])))
+
+module _ {D C : Type 0} (seen : D → DiskView) (told : C → Option (List ℕ)) (left : Option (List ℕ)) (since places deadline : ℕ) where
+  looks_end : (end : WaitEnd) (before front looked : List WatchCall) → AreLooks places deadline looked (IsReady end)
+      → SleepEnds {D = D} {C = C} seen told left since deadline (Some end) (before ++ (front ++ looked))
+  looks_end (Ready place offer) before front looked h =
+      (before ++ (front ++ nothing_at place), ap (λ (l : List WatchCall). before ++ (front ++ l)) h.2 ∙ behind before front (nothing_at place) (Looks place offer), h.1)
+  looks_end (TimedOut now) before front looked h =
+      (before ++ (front ++ nothing_at places), ap (λ (l : List WatchCall). before ++ (front ++ l)) h.1 ∙ behind before front (nothing_at places) (Asks now), h.0)
+  looks_end NoMemory before front looked h = absurd h
+
+  -- a poll that ends it
+  poll_ends : (end : WaitEnd) (before calls : List WatchCall) → ArePoll places deadline calls (IsReady end)
+      → SleepEnds {D = D} {C = C} seen told left since deadline (Some end) (before ++ calls)
+  poll_ends (Ready place offer) before calls (ArePoll.Refused is refused) = absurd (let bad : ◌≡◌ {A = WaitEnd} (Ready place offer) NoMemory = cc in cc)
+  poll_ends (TimedOut now) before calls (ArePoll.Refused is refused) = absurd (let bad : ◌≡◌ {A = WaitEnd} (TimedOut now) NoMemory = cc in cc)
+  poll_ends NoMemory before calls (ArePoll.Refused is refused) = tt
+  poll_ends end before calls (ArePoll.Looked looked fits is) =
+      subst (λ (l : List WatchCall). SleepEnds {D = D} {C = C} seen told left since deadline (Some end) (before ++ l)) (sym is)
+      (looks_end end before (registered_all places deadline) looked fits)
+
+  pub slept_to_poll : (tells : LookerParts D C → Option (List WatchCall)) (end : WaitEnd) (before : List WatchCall) (a b c : LookerParts D C)
+      → AreCalls (looker_acts seen told) before a b → Polls (looker_acts seen told) tells places deadline b (IsReady end) c
+      → Sleeps seen told left since deadline (Some end) a c
+  slept_to_poll tells end before a b c p q = record {
+    calls = before ++ q.calls;
+    does = calls_then (looker_acts seen told) before q.calls a b c p q.does.acts_so;
+    ends = poll_ends end before q.calls q.poll;
+  }
+
+  pub slept_to_peer : (now : ℕ) (before : List WatchCall) (a b c : LookerParts D C) → AreCalls (looker_acts seen told) before a b
+      → looker_acts seen told b (Asks now) c → HasLeft left since now true → Sleeps seen told left since deadline None a c
+  slept_to_peer now before a b c p q is = record {
+    calls = before ++ Asks now ∷ [];
+    does = calls_then (looker_acts seen told) before (Asks now ∷ []) a b c p (c, q, refl);
+    ends = (before, now, refl, is);
+  }
+
+-- ---- looks around
+
+looked_behind : (xs ys : List Glance) → (zs : List ℕ) → All (HasLooked xs) zs → All (HasLooked (xs ++ ys)) zs
+looked_behind xs ys zs all = All-weaker (HasLooked xs) (HasLooked (xs ++ ys)) (λ x h. (h.0, Contains-append_left xs ys (looks x h.0) h.1)) zs all
+
+looked_before : (xs ys : List Glance) → (zs : List ℕ) → All (HasLooked ys) zs → All (HasLooked (xs ++ ys)) zs
+looked_before xs ys zs all = All-weaker (HasLooked ys) (HasLooked (xs ++ ys)) (λ x h. (h.0, Contains-append_right xs ys (looks x h.0) h.1)) zs all
+
+module _ {D : Type 0} (seen : D → DiskView) (shared : SharedParts D) (group : List ℕ) where
+  -- a look at one partition
+  pub looked_at : (shard : ℕ) (offer : Offer) (a b : PassesParts D) → LooksAt seen shared group shard offer a.parts b.parts
+      → b.members ≡ a.members → b.foreign ≡ a.foreign → LooksThrough seen shared group (shard ∷ []) offer a b
+  looked_at shard offer a b l members foreign = record {
+    glances = looks shard offer ∷ [];
+    on = All-cons (IsOn (shard ∷ [])) (looks shard offer) [] (0, omega (arith), refl) (All-nil (IsOn (shard ∷ [])));
+    does = record { parts = (b.parts, l, refl); members = members; foreign = foreign };
+    unasked = refl;
+    finds = λ some. ([], shard, offer, refl, some);
+    all = λ none. All-cons (HasLooked (looks shard offer ∷ [])) shard [] (offer, (0, omega (arith), refl)) (All-nil (HasLooked (looks shard offer ∷ [])));
+  }
+
+  pub looks_stay : (shards : List ℕ) (offer : Offer) (a b : PassesParts D) → AreOf shared a → LooksThrough seen shared group shards offer a b → StayOf shared a b
+  looks_stay shards offer a b of l = glances_stay seen shared group l.glances a b of l.does
+
+  -- so many of the partitions were looked at, and had nothing
+  pub record LookedSoFar (shards looked : List ℕ) (old new : PassesParts D) : Type 0 where
+    pub glances : List Glance
+    pub on : All (IsOn shards) glances
+    pub does : Glances seen shared group glances old new
+    pub unasked : asked_in glances ≡ []
+    pub all : All (HasLooked glances) looked
+
+  pub looked_none : (shards : List ℕ) (a : PassesParts D) → LookedSoFar shards [] a a
+  looked_none shards a = record {
+    glances = [];
+    on = All-nil (IsOn shards);
+    does = record { parts = refl; members = refl; foreign = refl };
+    unasked = refl;
+    all = All-nil (HasLooked []);
+  }
+
+  one_on : (shards : List ℕ) (shard : ℕ) → Contains shards shard → (glance : Glance) → IsOn (shard ∷ []) glance → IsOn shards glance
+  one_on shards shard there (looks other offer) h = only h.0 h.1 h.2
+    where
+      only : (k : ℕ) → k < 1 → slice_index_or (shard ∷ []) k other ≡ other → Contains shards other
+      only zero l e = subst (λ (x : ℕ). Contains shards x) e there
+      only (suc k) l e = absurd (omega (arith, l))
+  one_on shards shard there (asks now) h = tt
+
+  module _ (shards looked : List ℕ) (shard : ℕ) (offer : Offer) (a b c : PassesParts D) (s : LookedSoFar shards looked a b)
+      (l : LooksThrough seen shared group (shard ∷ []) offer b c) (there : Contains shards shard) where
+    on_both : All (IsOn shards) (s.glances ++ l.glances)
+    on_both = All-append (IsOn shards) s.glances l.glances s.on
+        (All-weaker (IsOn (shard ∷ [])) (IsOn shards) (one_on shards shard there) l.glances l.on)
+
+    asked_both : asked_in (s.glances ++ l.glances) ≡ []
+    asked_both = asked_append s.glances l.glances ∙ ap (λ (x : List ℕ). x ++ asked_in l.glances) s.unasked ∙ l.unasked
+
+    pub looked_more : offer ≡ Nothing → LookedSoFar shards (looked ++ shard ∷ []) a c
+    looked_more none = record {
+      glances = s.glances ++ l.glances;
+      on = on_both;
+      does = glances_then seen shared group s.glances l.glances a b c s.does l.does;
+      unasked = asked_both;
+      all = All-append (HasLooked (s.glances ++ l.glances)) looked (shard ∷ [])
+          (looked_behind s.glances l.glances looked s.all) (looked_before s.glances l.glances (shard ∷ []) (l.all none));
+    }
+
+    pub looked_found : offer ≢ Nothing → LooksThrough seen shared group shards offer a c
+    looked_found some = record {
+      glances = s.glances ++ l.glances;
+      on = on_both;
+      does = glances_then seen shared group s.glances l.glances a b c s.does l.does;
+      unasked = asked_both;
+      finds = λ other. found_behind s.glances l.glances (l.finds some);
+      all = λ none. absurd (some none);
+    }
+
+  pub looked_through : (shards looked : List ℕ) (a b : PassesParts D) → looked ≡ shards → LookedSoFar shards looked a b
+      → LooksThrough seen shared group shards Nothing a b
+  looked_through shards looked a b is s = record {
+    glances = s.glances;
+    on = s.on;
+    does = s.does;
+    unasked = s.unasked;
+    finds = λ some. absurd (some refl);
+    all = λ none. subst (λ (l : List ℕ). All (HasLooked s.glances) l) is s.all;
+  }
+
 -- ---- a whole wait
 
 pub at_end : (left : Option (List ℕ)) (result : Bool) → result ≡ true → IfSome left (λ bytes. IsTrue result ↔ (bytes ≡ [])) → IsAtEnd left
 at_end None result is h = tt
 at_end (Some bytes) result is h = h.0 is
 
--- a look at the peer is so far behind the last one, where the time isn't over
-pub a_look_later : (now deadline until at : ℕ) → (until ≡ now + look_again) ⊎ (deadline ≤ until) → until ≤ at → at < deadline → now + look_again ≤ at
-a_look_later now deadline until at (inl is) up early = omega (arith, is, up)
-a_look_later now deadline until at (inr le) up early = absurd (omega (arith, le, up, early))
-
 module _ {D : Type 0} (seen : D → DiskView) (shared : SharedParts D) (wish : WaitWish) where
   pub found_at_once : (offer : Offer) (left : Option (List ℕ)) (a b : PassesParts D) (t : Option (List ℕ)) → offer ≢ Nothing
-      → LooksAround seen shared wish offer a b → WaitsFor seen shared wish left a b t t
+      → LooksThrough seen shared wish.group wish.shards offer a b → WaitsFor seen shared wish left a b t t
   found_at_once offer left a b t some l = record {
     waited = record { wish = wish; glances = l.glances; gone = false };
     wished = refl;
-    wait = record { on = l.on; over = inl (l.finds some) };
+    wait = record { on = l.on; ends = inl (l.finds some) };
     does = record { on = l.on; does = l.does; asked = subst (TellsMore t t) (sym l.unasked) (tells_none t) };
     gone = λ is. absurd (let bad : false ≡ true = is in cc);
   }
 
-  -- what went before the next sleep: the clock was asked first and last
-  pub record SoFar (now deadline : ℕ) (old new : PassesParts D) (told later : Option (List ℕ)) : Type 0 where
-    pub glances : List Glance
-    pub does : Glanced seen shared wish glances old new told later
-    pub first : ℕ
-    pub rest : List ℕ
-    pub begins : asked_in glances ≡ first ∷ rest
-    pub before : List ℕ
-    pub ends : asked_in glances ≡ before ++ now ∷ []
-    pub limit : first + wish.wait_ms ≡ deadline
+  -- the looks had nothing
+  abbrev pub looked_in_vain : (shards : List ℕ) (offer : Offer) (a b : PassesParts D) → shards ≡ wish.shards → offer ≡ Nothing
+      → LooksThrough seen shared wish.group shards offer a b → LooksThrough seen shared wish.group wish.shards Nothing a b
+  looked_in_vain shards offer a b are none l =
+      subst (λ (x : List ℕ). LooksThrough seen shared wish.group x Nothing a b) are (subst (λ (o : Offer). LooksThrough seen shared wish.group shards o a b) none l)
 
-  pub so_far_first : (now deadline : ℕ) (a b : PassesParts D) (t u : Option (List ℕ)) → LooksAround seen shared wish Nothing a b → TellsMore t u (now ∷ [])
-      → now + wish.wait_ms ≡ deadline → SoFar now deadline a b t u
-  so_far_first now deadline a b t u l tells is =
-      let asked : asked_in (l.glances ++ asks now ∷ []) ≡ now ∷ [] =
-      asked_append l.glances (asks now ∷ []) ∙ ap (λ (x : List ℕ). x ++ now ∷ []) l.unasked in
-      record {
-        glances = l.glances ++ asks now ∷ [];
-        does = record {
-          on = All-append (IsOn wish.shards) l.glances (asks now ∷ []) l.on (All-cons (IsOn wish.shards) (asks now) [] tt (All-nil (IsOn wish.shards)));
-          does = glances_then seen shared wish.group l.glances (asks now ∷ []) a b b l.does (record { parts = refl; members = refl; foreign = refl });
-          asked = subst (TellsMore t u) (sym asked) tells;
-        };
-        first = now;
-        rest = [];
-        begins = asked;
-        before = [];
-        ends = asked;
-        limit = is;
-      }
+  module _ (left : Option (List ℕ)) (now : ℕ) (a b c : PassesParts D) (t u v : Option (List ℕ))
+      (l : LooksThrough seen shared wish.group wish.shards Nothing a b) (tells : TellsMore t u (now ∷ [])) where
+    -- the looks, the clock, and what comes behind
+    abbrev all_of : List Glance → List Glance
+    all_of xs = l.glances ++ asks now ∷ xs
 
-  module _ (now deadline : ℕ) (a b c : PassesParts D) (t u v : Option (List ℕ)) (s : SoFar now deadline a b t u) where
-    pub so_far_then : (until at : ℕ) → WaitsUntil seen shared wish until (TimedOut at) b c u v → SoFar at deadline a c t v
-    so_far_then until at w = record {
-      glances = s.glances ++ w.glances;
-      does = glanced_then seen shared wish s.glances w.glances a b c t u v s.does w.does;
-      first = s.first;
-      rest = s.rest ++ asked_in w.glances;
-      begins = asked_append s.glances w.glances ∙ ap (λ (x : List ℕ). x ++ asked_in w.glances) s.begins;
-      before = asked_in s.glances ++ w.ends.1.0;
-      ends = asked_append s.glances w.glances ∙ (ap (λ (x : List ℕ). asked_in s.glances ++ x) w.ends.1.1
-          ∙ sym (append_assoc (asked_in s.glances) w.ends.1.0 (at ∷ [])));
-      limit = s.limit;
+    asked_of_all : (xs : List Glance) → asked_in (all_of xs) ≡ now ∷ asked_in xs
+    asked_of_all xs = asked_append l.glances (asks now ∷ xs) ∙ ap (λ (x : List ℕ). x ++ now ∷ asked_in xs) l.unasked
+
+    does_all : (xs : List Glance) → Glanced seen shared wish xs b c u v → Glanced seen shared wish (all_of xs) a c t v
+    does_all xs g = record {
+      on = All-append (IsOn wish.shards) l.glances (asks now ∷ xs) l.on (All-cons (IsOn wish.shards) (asks now) xs tt g.on);
+      does = glances_then seen shared wish.group l.glances (asks now ∷ xs) a b c l.does
+          (record { parts = g.does.parts; members = g.does.members; foreign = g.does.foreign });
+      asked = subst (TellsMore t v) (sym (asked_of_all xs)) (tells_then t u v (now ∷ []) (asked_in xs) tells g.asked);
     }
 
-    -- it ends so
-    ended : (left : Option (List ℕ)) (gone : Bool) (xs : List Glance) → Glanced seen shared wish xs b c u v → IsWait (record { wish = wish; glances = s.glances ++ xs; gone = gone })
+    all_looked : (xs : List Glance) → All (HasLooked (all_of xs)) wish.shards
+    all_looked xs = looked_behind l.glances (asks now ∷ xs) wish.shards (l.all refl)
+
+    -- the clock answered now first, and this last
+    passed : (xs : List Glance) (wait at : ℕ) (before : List ℕ) → asked_in xs ≡ before ++ at ∷ [] → now + wait ≤ at → HasPassed wait (asked_in (all_of xs))
+    passed xs wait at before is le = ([], before, now, at, asked_of_all xs ∙ ap (λ (x : List ℕ). now ∷ x) is, le)
+
+    ended : (gone : Bool) (xs : List Glance) → Glanced seen shared wish xs b c u v
+        → HasFound (all_of xs) ⊎ IsOver (record { wish = wish; glances = all_of xs; gone = gone })
         → (gone ≡ true → IsAtEnd left) → WaitsFor seen shared wish left a c t v
-    ended left gone xs does wait left_so = record {
-      waited = record { wish = wish; glances = s.glances ++ xs; gone = gone };
+    ended gone xs g over is_gone = record {
+      waited = record { wish = wish; glances = all_of xs; gone = gone };
       wished = refl;
-      wait = wait;
-      does = glanced_then seen shared wish s.glances xs a b c t u v s.does does;
-      gone = left_so;
+      wait = record { on = (does_all xs g).on; ends = ends_so over };
+      does = does_all xs g;
+      gone = is_gone;
     }
+      where
+        ends_so : HasFound (all_of xs) ⊎ IsOver (record { wish = wish; glances = all_of xs; gone = gone })
+            → HasFound (all_of xs) ⊎ (All (HasLooked (all_of xs)) wish.shards × IsOver (record { wish = wish; glances = all_of xs; gone = gone }))
+        ends_so (inl found) = inl found
+        ends_so (inr over) = inr (all_looked xs, over)
 
-    pub so_far_found : (left : Option (List ℕ)) (until place : ℕ) (offer : Offer) → WaitsUntil seen shared wish until (Ready place offer) b c u v
-        → WaitsFor seen shared wish left a c t v
-    so_far_found left until place offer w = ended left false w.glances w.does
-        (record { on = All-append (IsOn wish.shards) s.glances w.glances s.does.on w.does.on; over = inl (found_behind s.glances w.glances w.ends) })
+    pub waited_for : (end : Option WaitEnd) → end ≢ Some NoMemory → WaitsLong seen shared wish left now end b c u v → WaitsFor seen shared wish left a c t v
+    waited_for (Some (Ready place offer)) ok w =
+        ended false w.glances w.does (inl (found_behind l.glances (asks now ∷ w.glances) (found_behind (asks now ∷ []) w.glances w.ends)))
         (λ is. absurd (let bad : false ≡ true = is in cc))
+    waited_for (Some (TimedOut at)) ok w =
+        ended false w.glances w.does (inr (inl (passed w.glances wish.wait_ms at w.ends.1.0 w.ends.1.1 w.ends.0))) (λ is. absurd (let bad : false ≡ true = is in cc))
+    waited_for (Some NoMemory) ok w = absurd (ok refl)
+    waited_for None ok w =
+        ended true w.glances w.does (inr (inr (refl, passed w.glances peer_from w.ends.0 w.ends.2.0 w.ends.2.1 (w.ends.1 refl).0))) (λ is. (w.ends.1 refl).1)
 
-    pub so_far_over : (left : Option (List ℕ)) (until at : ℕ) → deadline ≤ at → WaitsUntil seen shared wish until (TimedOut at) b c u v
-        → WaitsFor seen shared wish left a c t v
-    so_far_over left until at late w = ended left false w.glances w.does
-        (record {
-          on = All-append (IsOn wish.shards) s.glances w.glances s.does.on w.does.on;
-          over = inr (inl (
-            [],
-            s.rest ++ w.ends.1.0,
-            s.first,
-            at,
-            asked_append s.glances w.glances ∙ (λ i. s.begins i ++ w.ends.1.1 i)
-                ∙ ap (λ (x : List ℕ). s.first ∷ x) (sym (append_assoc s.rest w.ends.1.0 (at ∷ []))),
-            (let limit = s.limit in omega (arith, limit, late)),
-          ));
-        })
-        (λ is. absurd (let bad : false ≡ true = is in cc))
-
-    pub so_far_gone : (left : Option (List ℕ)) (until at : ℕ) → now + look_again ≤ at → IsAtEnd left → WaitsUntil seen shared wish until (TimedOut at) b c u v
-        → WaitsFor seen shared wish left a c t v
-    so_far_gone left until at later over w = ended left true w.glances w.does
-        (record {
-          on = All-append (IsOn wish.shards) s.glances w.glances s.does.on w.does.on;
-          over = inr (inr (
-            refl,
-            (
-              s.before,
-              w.ends.1.0,
-              now,
-              at,
-              asked_append s.glances w.glances ∙ (λ i. s.ends i ++ w.ends.1.1 i) ∙ append_assoc s.before (now ∷ []) (w.ends.1.0 ++ at ∷ []),
-              later,
-            ),
-          ));
-        })
-        (λ is. over)
-
-    pub so_far_stops : (until : ℕ) → WaitsUntil seen shared wish until NoMemory b c u v → StopsWaiting seen shared wish a c t v
-    so_far_stops until w = record { glances = s.glances ++ w.glances; does = glanced_then seen shared wish s.glances w.glances a b c t u v s.does w.does }
+    pub stopped : (end : Option WaitEnd) → WaitsLong seen shared wish left now end b c u v → StopsWaiting seen shared wish a c t v
+    stopped end w = record { glances = all_of w.glances; does = does_all w.glances w.does }
 
   -- passes that were waited through are of the same locks
-  pub until_stay : (deadline : ℕ) (end : WaitEnd) (a b : PassesParts D) (t u : Option (List ℕ)) → AreOf shared a → WaitsUntil seen shared wish deadline end a b t u
-      → StayOf shared a b
-  until_stay deadline end a b t u of w = glances_stay seen shared wish.group w.glances a b of w.does.does
+  pub long_stay : (left : Option (List ℕ)) (since : ℕ) (end : Option WaitEnd) (a b : PassesParts D) (t u : Option (List ℕ)) → AreOf shared a
+      → WaitsLong seen shared wish left since end a b t u → StayOf shared a b
+  long_stay left since end a b t u of w = glances_stay seen shared wish.group w.glances a b of w.does.does

@@ -1,8 +1,10 @@
--- What a fetch that waits does (ShareFetchRequest.json: MaxWaitMs): glances, each at what a partition would give its group or at the clock, up to
--- where it need not wait any longer. A glance at a partition is an entry of its pass, and leaves the partition as it was. This project's own.
--- For example a fetch of partitions 2 and 0 for 60000 ms glances at both, which have nothing, and at the clock. A batch is produced to 0, which wakes
--- it: it glances at 2, and finds slot 7 at 0 (serve_rows, `a fetch that waits is answered once a batch is there`).
-use Rattle.std.specs.Prelude.{◌≡◌, ◌≢◌, ◌⊎◌, ◌≤◌, ◌+◌, ◌++◌, ◌∷◌, [], All, ℕ, List, Option, Bool, true, Ok, ⊤}
+-- What a fetch that waits does (ShareFetchRequest.json: MaxWaitMs): glances, each at what a partition would give its
+-- group or at the clock, up to where it need not wait any longer. A glance at a partition is an entry of its pass, and
+-- leaves the partition as it was. This project's own.
+-- For example a fetch of partitions 0 to 2 for 60000 ms glances at each, which have nothing, and at the clock. A batch
+-- is produced to 2, which wakes it: it glances at 0 and 1, and finds slot 0 at 2 (serve_rows, `a fetch that waits is
+-- answered once a batch is there`).
+use Rattle.std.specs.Prelude.{◌≡◌, ◌≢◌, ◌⊎◌, ◌≤◌, ◌+◌, ◌++◌, ◌∷◌, [], All, length, ℕ, List, Option, Some, None, Bool, true, Ok, ⊤}
 use Rattle.std.specs.List.{Contains}
 use Rattle.std.specs.Io.KnownBytes.{IsAtEnd}
 use Rattle.edge_io.specs.Serving.{TellsMore}
@@ -37,13 +39,19 @@ abbrev pub IsOn : List ℕ → Glance → Type 0
 IsOn shards (looks shard offer) = Contains shards shard
 IsOn shards (asks now) = ⊤
 
+-- this partition was looked at
+abbrev pub HasLooked : List Glance → ℕ → Type 0
+HasLooked glances shard = (offer : Offer) × Contains glances (looks shard offer)
+
 -- the last glance found something
 abbrev pub HasFound : List Glance → Type 0
-HasFound glances = (before : List Glance) × (shard : ℕ) × (offer : Offer) × (glances ≡ before ++ looks shard offer ∷ []) × (offer ≢ Nothing)
+HasFound glances = (before : List Glance) × (shard : ℕ) × (offer : Offer)
+    × (glances ≡ before ++ looks shard offer ∷ []) × (offer ≢ Nothing)
 
 -- the last answer of the clock is at least so far above an earlier one
 abbrev pub HasPassed : ℕ → List ℕ → Type 0
-HasPassed wait asked = (before between : List ℕ) × (first last : ℕ) × (asked ≡ before ++ first ∷ (between ++ last ∷ [])) × (first + wait ≤ last)
+HasPassed wait asked = (before between : List ℕ) × (first last : ℕ)
+    × (asked ≡ before ++ first ∷ (between ++ last ∷ [])) × (first + wait ≤ last)
 
 -- a wait: for what, its glances, and whether it ended as the peer had
 pub record Waited : Type 0 where
@@ -52,25 +60,39 @@ pub record Waited : Type 0 where
   pub gone : Bool
 
 -- so many milliseconds on, a wait looks at its peer
-abbrev pub look_again : ℕ
-look_again = 100
+abbrev pub peer_from : ℕ
+peer_from = 10
 
--- It looks at the partitions of its wish alone, and ends where one of them has something or its time is over; or where its peer has ended, which it
--- looks at behind a tenth of a second at the soonest.
+-- its time is over, or its peer has ended, which it looks at behind a hundredth of a second at the soonest
+abbrev pub IsOver : Waited → Type 0
+IsOver waited = HasPassed waited.wish.wait_ms (asked_in waited.glances)
+    ⊎ ((waited.gone ≡ true) × HasPassed peer_from (asked_in waited.glances))
+
+-- It looks at the partitions of its wish alone, and ends where one of them has something; or where it is over, and
+-- each was looked at.
 pub record IsWait (waited : Waited) : Type 0 where
   pub on : All (IsOn waited.wish.shards) waited.glances
-  pub over : HasFound waited.glances ⊎ HasPassed waited.wish.wait_ms (asked_in waited.glances)
-      ⊎ ((waited.gone ≡ true) × HasPassed look_again (asked_in waited.glances))
+  pub ends : HasFound waited.glances ⊎ (All (HasLooked waited.glances) waited.wish.shards × IsOver waited)
 
 abbrev pub looked_by : List ℕ → PartEvent
 looked_by group = record { now = 0; ask = part_ask.Offer group }
 
+-- the peer has ended so long behind a moment; where the link tells its bytes, all of them were read
+abbrev pub HasLeft : (left : Option (List ℕ)) → (since now : ℕ) → Bool → Type 0
+HasLeft left since now ended = ended ≡ true → (since + peer_from ≤ now) × IsAtEnd left
+
 module _ {D : Type 0} (seen : D → DiskView) (shared : SharedParts D) (group : List ℕ) where
+  -- a partition was looked at; one that isn't hosted has nothing
+  abbrev pub LooksAt : (shard : ℕ) → Offer → (old new : List (PassParts (Host D) PartEvent PartAnswer)) → Type 0
+  LooksAt shard offer old new =
+      ActsPlace (ActsPart seen) shared.parts shard (looked_by group) (Ok (part_told.Offer offer)) old new
+      ⊎ ((length shared.parts ≤ shard) × (offer ≡ Nothing) × (new ≡ old))
+
   -- passes of partitions were glanced through, one glance after the other
   abbrev pub GlanceThrough : List Glance → (old new : List (PassParts (Host D) PartEvent PartAnswer)) → Type 0
   GlanceThrough [] old new = new ≡ old
-  GlanceThrough (looks shard offer ∷ glances) old new = (mid : List (PassParts (Host D) PartEvent PartAnswer))
-      × ActsPlace (ActsPart seen) shared.parts shard (looked_by group) (Ok (part_told.Offer offer)) old mid × GlanceThrough glances mid new
+  GlanceThrough (looks shard offer ∷ glances) old new =
+      (mid : List (PassParts (Host D) PartEvent PartAnswer)) × LooksAt shard offer old mid × GlanceThrough glances mid new
   GlanceThrough (asks now ∷ glances) old new = GlanceThrough glances old new
 
   -- and no other pass changed
@@ -78,6 +100,15 @@ module _ {D : Type 0} (seen : D → DiskView) (shared : SharedParts D) (group : 
     pub parts : GlanceThrough glances old.parts new.parts
     pub members : new.members ≡ old.members
     pub foreign : new.foreign ≡ old.foreign
+
+  -- these partitions were looked at, up to the first that had something
+  pub record LooksThrough (shards : List ℕ) (offer : Offer) (old new : PassesParts D) : Type 0 where
+    pub glances : List Glance
+    pub on : All (IsOn shards) glances
+    pub does : Glances glances old new
+    pub unasked : asked_in glances ≡ []
+    pub finds : offer ≢ Nothing → HasFound glances
+    pub all : offer ≡ Nothing → All (HasLooked glances) shards
 
 module _ {D : Type 0} (seen : D → DiskView) (shared : SharedParts D) (wish : WaitWish) where
   -- these glances were made, and the clock told its answers
@@ -99,22 +130,18 @@ module _ {D : Type 0} (seen : D → DiskView) (shared : SharedParts D) (wish : W
     pub glances : List Glance
     pub does : Glanced glances old new told later
 
-  -- it was looked at the partitions, up to the first that had something
-  pub record LooksAround (offer : Offer) (old new : PassesParts D) : Type 0 where
-    pub glances : List Glance
-    pub on : All (IsOn wish.shards) glances
-    pub does : Glances seen shared wish.group glances old new
-    pub unasked : asked_in glances ≡ []
-    pub finds : offer ≢ Nothing → HasFound glances
+  -- what ended a wait that began at a moment, by its last glance; None where the peer has ended
+  abbrev pub EndsWith : (left : Option (List ℕ)) → (since : ℕ) → Option WaitEnd → List Glance → Type 0
+  EndsWith left since (Some (Ready place offer)) glances = HasFound glances
+  EndsWith left since (Some (TimedOut now)) glances =
+      (since + wish.wait_ms ≤ now) × ((before : List ℕ) × (asked_in glances ≡ before ++ now ∷ []))
+  EndsWith left since (Some NoMemory) glances = ⊤
+  EndsWith left since None glances =
+      (now : ℕ) × HasLeft left since now true × ((before : List ℕ) × (asked_in glances ≡ before ++ now ∷ []))
 
-  -- what ended it, by its last glance
-  abbrev pub EndsWith : (deadline : ℕ) → WaitEnd → List Glance → Type 0
-  EndsWith deadline (Ready place offer) glances = HasFound glances
-  EndsWith deadline (TimedOut now) glances = (deadline ≤ now) × ((before : List ℕ) × (asked_in glances ≡ before ++ now ∷ []))
-  EndsWith deadline NoMemory glances = ⊤
-
-  -- it was waited up to a deadline at the latest
-  pub record WaitsUntil (deadline : ℕ) (end : WaitEnd) (old new : PassesParts D) (told later : Option (List ℕ)) : Type 0 where
+  -- it was waited from a moment on
+  pub record WaitsLong (left : Option (List ℕ)) (since : ℕ) (end : Option WaitEnd) (old new : PassesParts D)
+      (told later : Option (List ℕ)) : Type 0 where
     pub glances : List Glance
     pub does : Glanced glances old new told later
-    pub ends : EndsWith deadline end glances
+    pub ends : EndsWith left since end glances

@@ -141,7 +141,8 @@ fn expire_parts<R: Wait, D: Disk, C: Clock>(
 }
 
 /// Expires each hosted partition once and ticks the members once, each at a moment of its own. An act that finds no
-/// memory leaves the others as they are, and is counted. Those that wait for a moment up to the last one are woken.
+/// memory leaves the others as they are, and is counted. Those that wait for a moment up to the last one are woken, and
+/// those that look at their peers.
 pub fn expiry_turn<R: Wait, D: Disk, C: Clock>(
     rt: &R,
     broker: &Shared<D>,
@@ -155,7 +156,7 @@ pub fn expiry_turn<R: Wait, D: Disk, C: Clock>(
 {
     let TurnAnswer { faults, no_memory } = expire_parts(rt, broker, passes, clock);
     let now = clock.now_ms();
-    broker.room.timers.wake(rt, now);
+    broker.room.wake_turn(rt, now);
     match tick(rt, broker, passes, now) {
         Ok(_) => TurnAnswer { faults, no_memory },
         Err(NoMemory) => TurnAnswer {

@@ -7,7 +7,7 @@ ghost use Rattle.shard_lock.specs.Passes.{IsOf};
 ghost use Rattle.broker_shards.specs.Acts.{ActsMembers};
 ghost use Rattle.broker_shards.specs.Histories.{IsToldOf};
 ghost use Rattle.broker_locks.specs.Acting.{ActsByForeign, ActsByMembers, ActsByPart, ActsPlace, AreOf, DoesByPart};
-ghost use Rattle.broker_locks.specs.Looking.{LooksAt};
+ghost use Rattle.broker_locks.specs.Waiting.{LooksAt};
 ghost use Rattle.broker_locks.specs.Acting.{DoesPart, FailsByPart, FailsPart, FitsAsk, StayOf};
 
 use crate::shared::{Passes, Shared};
@@ -48,7 +48,8 @@ fn told_offer(answer: Result<PartTold, NoMemory>) -> Offer
     offer
 }
 
-/// What a hosted partition would give a group: one act of its pass, which leaves the partition as it was.
+/// What a partition would give a group: one act of its pass, which leaves the partition as it was. One that isn't
+/// hosted has nothing.
 pub(crate) fn offer_at<R: Wait, D: Disk>(
     rt: &R,
     shared: &Shared<D>,

@@ -48,16 +48,32 @@ impl Waiters {
         };
     }
 
-    /// Wakes all. Whoever looked at the partition before it changed is seen to wait, as both went through its lock.
-    pub fn wake<R: Wait>(&self, rt: &R) {
+    // How many seats there are, where somebody waits.
+    fn waiting_seats<R: Wait>(&self, rt: &R) -> usize {
         if !self.some.load(Ordering::SeqCst) {
-            return;
+            return 0;
         }
-        let mut seats = self.seats.lock(rt);
+        let seats = self.seats.lock(rt);
         self.some.store(false, Ordering::SeqCst);
+        seats.len()
+    }
+
+    // The waker of a seat. The place is free for another as soon as it is taken.
+    fn take<R: Wait>(&self, rt: &R, seat: usize) -> Option<Waker> {
+        let mut seats = self.seats.lock(rt);
         let seats = &mut *seats;
-        for slot in seats.iter_mut() {
-            *slot = None;
+        match seats.get_mut(seat) {
+            Some(slot) => slot.take(),
+            None => None,
+        }
+    }
+
+    /// Wakes all. Whoever looked at the partition before it changed is seen to wait, as both went through its lock.
+    /// None is woken while the place of another is held, so those that are awake don't wait for each other.
+    pub fn wake<R: Wait>(&self, rt: &R) {
+        for seat in 0..self.waiting_seats(rt) {
+            let waker = self.take(rt, seat);
+            drop(waker);
         }
     }
 }
@@ -109,8 +125,8 @@ impl Timers {
         Ok(())
     }
 
-    /// Wakes those whose moment has come.
-    pub fn wake<R: Wait>(&self, rt: &R, now: u64) {
+    // Wakes those whose moment has come.
+    fn wake<R: Wait>(&self, rt: &R, now: u64) {
         let mut alarms = self.alarms.lock(rt);
         let alarms = &mut *alarms;
         while let Some(seat) = alarms.wheel.poll(now) {
@@ -121,13 +137,14 @@ impl Timers {
     }
 }
 
-/// Where the threads of a server wait: for each of its partitions, and for a moment. All room was made when the locks
-/// were.
+/// Where the threads of a server wait: for each of its partitions, for a moment, and for a turn of expiries. All room was
+/// made when the locks were.
 #[derive(Drop)]
 pub struct WaitRoom {
     pub alloc: Global,
     parts: Vec<Waiters>,
-    pub timers: Timers,
+    timers: Timers,
+    turns: Waiters,
     waits: AtomicU64,
 }
 
@@ -142,6 +159,7 @@ impl WaitRoom {
             alloc,
             parts: rooms,
             timers: Timers::for_seats(alloc, seats)?,
+            turns: Waiters::for_seats(alloc, seats)?,
             waits: AtomicU64::new(0),
         })
     }
@@ -183,5 +201,19 @@ impl WaitRoom {
         ensures kept { Keeps cx.old cx.new }
     {
         self.timers.register(rt, seat, deadline, cx)
+    }
+
+    /// Has the context's task woken by the next turn of expiries.
+    pub fn register_turn<R: Wait>(&self, rt: &R, seat: usize, cx: &mut Context<'_>)
+        ensures armed { IsArmed cx.new }
+        ensures kept { Keeps cx.old cx.new }
+    {
+        self.turns.register(rt, seat, cx);
+    }
+
+    /// Wakes those whose moment has come, and those that wait for a turn of expiries.
+    pub fn wake_turn<R: Wait>(&self, rt: &R, now: u64) {
+        self.timers.wake(rt, now);
+        self.turns.wake(rt);
     }
 }

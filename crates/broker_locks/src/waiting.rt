@@ -1,27 +1,31 @@
 // A fetch that waits through the passes of one thread: it looks at what its partitions would give it, and sleeps until
 // one of them changes or a moment has come.
-ghost use Rattle.std.specs.Prelude.{◌≡◌, ◌⊎◌, ◌≤◌, ◌+◌, OnOk, OnErr, None};
+ghost use Rattle.std.specs.Prelude.{◌≤◌, ◌^◌, ◌∷◌, [], ℕ, OnOk, OnErr, None};
 ghost use Rattle.std.specs.List.{AllZip};
 ghost use Rattle.shard_lock.specs.Passes.{IsOf};
 ghost use Rattle.broker_locks.specs.Acting.{AreOf, StayOf};
-ghost use Rattle.broker_locks.specs.Looking.{LooksBy, looker_acts};
-ghost use Rattle.broker_locks.specs.Waiting.{LooksAround, StopsWaiting, WaitsFor, WaitsUntil, look_again};
+ghost use Rattle.broker_locks.specs.Looking.{LooksBy, Sleeps, looker_acts};
+ghost use Rattle.broker_locks.specs.Waiting.{LooksThrough, StopsWaiting, WaitsFor, WaitsLong, HasLeft};
+ghost use Rattle.fetch_wait.specs.declared.watch.WatchCall.TheVariants.{Asks};
+ghost use Rattle.futures.specs.Task.{IsArmed};
 
 use crate::parts::offer_at;
 use crate::shared::{Passes, Shared};
 use broker_shards::PartHost;
 use conn_core::WaitWish;
 use edge_io::{Clock, Disk, Link};
-use fetch_wait::{FetchWait, WaitEnd, Watch, block_on, make_queue};
-use futures::task::Context;
+use fetch_wait::{FetchWait, WaitEnd, Watch, make_queue};
+use futures::Future;
+use futures::task::{Context, Poll, Queue};
 use shard_lock::Pass;
-use share_model::{NoMemory, Offer};
+use share_model::{Name, NoMemory, Offer};
+use std::alloc::Global;
 use std::marker::Model;
 use std::mem;
 use std::sync::Wait;
 
-// A wait looks at its peer so soon again: the next turn of expiries behind it wakes it.
-const LOOK_AGAIN_MS: u64 = 100;
+// A wait looks at its peer at the turns of expiries that come so long behind its begin.
+const PEER_FROM_MS: u64 = 10;
 
 // What a thread looks with: its passes of partitions, and its clock.
 #[derive(Drop)]
@@ -102,22 +106,91 @@ fn places_of(wish: &WaitWish) -> u32 {
     }
 }
 
-// Waits until a partition of the wish has something, or this moment has come.
-fn wait_until<R: Wait, C: Clock + Drop, D: Disk + Drop>(
+// Looks whether the peer has ended, where the wait has lasted long enough, and has the task woken by the next turn of
+// expiries.
+fn look_at_peer<R: Wait, K: Link, C: Clock + Drop, D: Disk + Drop>(
+    looker: &mut Looker<'_, R, C, D>,
+    link: &K,
+    since: u64,
+    cx: &mut Context<'_>,
+) -> bool
+    requires early { since ≤ 2 ^ 62 }
+    ensures asks { (now : ℕ) × looker_acts D.seen C.told looker.old (Asks now) looker.new
+        × HasLeft (K.left link.now) since now result }
+    ensures armed { IsArmed cx.new }
+{
+    let shared = looker.shared;
+    shared.room.register_turn(looker.rt, looker.seat, cx);
+    let now = looker.now_ms();
+    now >= since + PEER_FROM_MS && link.is_at_end()
+}
+
+// Polls the wait and looks at the peer, each where its task is woken, up to the end of the wait. None: the peer has
+// ended.
+fn sleep<R: Wait, K: Link, C: Clock + Drop, D: Disk + Drop>(
+    rt: &R,
+    queue: &Queue,
+    peer: usize,
+    wait: &mut FetchWait<Looker<'_, R, C, D>>,
+    link: &K,
+    since: u64,
+) -> Option<WaitEnd>
+    requires early { since ≤ 2 ^ 62 }
+    ensures sleeps { Sleeps D.seen C.told (K.left link.now) since wait.old.deadline result
+        wait.old.watch wait.new.watch }
+{
+    for _ in rt.forever() {
+        let Some(mut cx) = queue.next(rt) else {
+            continue;
+        };
+        if cx.task() == peer {
+            let has_ended = look_at_peer(&mut wait.watch, link, since, &mut cx);
+            cx.park();
+            if has_ended {
+                return None;
+            }
+        } else {
+            let polled = wait.poll(&mut cx);
+            cx.end(&polled);
+            if let Poll::Ready(end) = polled {
+                return Some(end);
+            }
+        }
+    }
+    unreachable!()
+}
+
+// A queue for a wait, and the number of its task that looks at the peer.
+fn two_tasks(alloc: Global, number: u64) -> Result<(Queue, usize), NoMemory> {
+    let queue = make_queue(alloc, number)?;
+    let Ok(vacancy) = queue.add() else {
+        return Err(NoMemory);
+    };
+    let peer = vacancy.task();
+    vacancy.schedule();
+    Ok((queue, peer))
+}
+
+// Waits until a partition of the wish has something, or its time is over, or the peer has ended (None). It began at a
+// moment.
+fn wait_long<R: Wait, K: Link, C: Clock + Drop, D: Disk + Drop>(
     rt: &R,
     shared: &Shared<D>,
     passes: &mut Passes<D>,
     wish: &WaitWish,
-    deadline: u64,
+    link: &K,
+    since: u64,
     clock: &mut C,
-) -> WaitEnd
+) -> Option<WaitEnd>
     requires of { AreOf shared.now passes.old }
+    requires early { since ≤ 2 ^ 62 }
     ensures stay { StayOf shared.now passes.old passes.new }
-    ensures waits { WaitsUntil D.seen shared.now wish.now deadline result passes.old passes.new (C.told clock.old) (C.told clock.new) }
+    ensures waits { WaitsLong D.seen shared.now wish.now (K.left link.now) since result
+        passes.old passes.new (C.told clock.old) (C.told clock.new) }
 {
     let room = &shared.room;
-    let Ok(queue) = make_queue(room.alloc, room.next_wait()) else {
-        return WaitEnd::NoMemory;
+    let Ok((queue, peer)) = two_tasks(room.alloc, room.next_wait()) else {
+        return Some(WaitEnd::NoMemory);
     };
     let fresh = clock.another();
     let own = mem::replace(clock, fresh);
@@ -130,8 +203,9 @@ fn wait_until<R: Wait, C: Clock + Drop, D: Disk + Drop>(
         parts,
         clock: own,
     };
+    let deadline = since + u64::from(wish.wait_ms);
     let mut wait = FetchWait::new(looker, places_of(wish), deadline);
-    let end = block_on(rt, &queue, &mut wait);
+    let end = sleep(rt, &queue, peer, &mut wait, link, since);
     let FetchWait { watch, .. } = wait;
     let Looker {
         parts,
@@ -143,34 +217,35 @@ fn wait_until<R: Wait, C: Clock + Drop, D: Disk + Drop>(
     end
 }
 
-// Looks at one partition of the wish.
+// Looks at one partition.
 fn glance<R: Wait, D: Disk>(
     rt: &R,
     shared: &Shared<D>,
     passes: &mut Passes<D>,
-    wish: &WaitWish,
-    place: u32,
+    group: Name,
+    shard: u32,
 ) -> Offer
     requires of { AreOf shared.now passes.old }
     ensures stay { StayOf shared.now passes.old passes.new }
-    ensures looks { LooksAround D.seen shared.now wish.now result passes.old passes.new }
+    ensures looks { LooksThrough D.seen shared.now group (shard ∷ []) result passes.old passes.new }
 {
-    look_at(rt, shared, wish, &mut passes.parts, place)
+    offer_at(rt, shared, &mut passes.parts, shard, group)
 }
 
-// Looks at the partitions of the wish, up to the first that has something.
+// Looks at these partitions, up to the first that has something.
 fn first_offer<R: Wait, D: Disk>(
     rt: &R,
     shared: &Shared<D>,
     passes: &mut Passes<D>,
-    wish: &WaitWish,
+    group: Name,
+    shards: &[u32],
 ) -> Offer
     requires of { AreOf shared.now passes.old }
     ensures stay { StayOf shared.now passes.old passes.new }
-    ensures looks { LooksAround D.seen shared.now wish.now result passes.old passes.new }
+    ensures looks { LooksThrough D.seen shared.now group shards.now result passes.old passes.new }
 {
-    for place in 0..places_of(wish) {
-        match glance(rt, shared, passes, wish, place) {
+    for shard in shards {
+        match glance(rt, shared, passes, group, *shard) {
             Offer::Nothing => {}
             offer => return offer,
         }
@@ -178,20 +253,10 @@ fn first_offer<R: Wait, D: Disk>(
     Offer::Nothing
 }
 
-// Up to when a wait sleeps at the longest before it looks at its peer again.
-fn next_look(now: u64, deadline: u64) -> u64
-    ensures { (result ≡ now + look_again) ⊎ (deadline ≤ result) }
-{
-    if now < deadline && deadline - now > LOOK_AGAIN_MS {
-        now + LOOK_AGAIN_MS
-    } else {
-        deadline
-    }
-}
-
 /// Waits until one of the partitions that a fetch wishes for has something for its group, or its time is over, or its
-/// peer has ended. Nothing is read from the link. A thread that sleeps is woken by each produce, delete and visit on
-/// these partitions and by what expires there, and by each turn of expiries.
+/// peer has ended. It looks at each of them before it sleeps. Nothing is read from the link. A thread that sleeps is
+/// woken by each produce and delete on these partitions, by each visit there that may free a record, and by what
+/// expires there; it looks at its peer at each turn of expiries.
 ///
 /// Where no memory is found to sleep, what was looked at stands in the histories.
 pub fn wait_for<R: Wait, K: Link, C: Clock + Drop, D: Disk + Drop>(
@@ -209,27 +274,15 @@ pub fn wait_for<R: Wait, K: Link, C: Clock + Drop, D: Disk + Drop>(
     ensures err { OnErr result (StopsWaiting D.seen shared.now wish.now
         passes.old passes.new (C.told clock.old) (C.told clock.new)) }
 {
-    match first_offer(rt, shared, passes, wish) {
+    match first_offer(rt, shared, passes, wish.group, wish.shards.as_slice()) {
         Offer::Nothing => {}
         _ => return Ok(()),
     }
-    let mut now = clock.now_ms();
-    let deadline = now + u64::from(wish.wait_ms);
-    for _ in rt.forever() {
-        let until = next_look(now, deadline);
-        match wait_until(rt, shared, passes, wish, until, clock) {
-            WaitEnd::Ready { .. } => return Ok(()),
-            WaitEnd::NoMemory => return Err(NoMemory),
-            WaitEnd::TimedOut { now: at } => {
-                if at >= deadline {
-                    return Ok(());
-                }
-                if link.is_at_end() {
-                    return Ok(());
-                }
-                now = at;
-            }
-        }
+    let now = clock.now_ms();
+    match wait_long(rt, shared, passes, wish, link, now, clock) {
+        Some(WaitEnd::Ready { .. }) => Ok(()),
+        Some(WaitEnd::TimedOut { .. }) => Ok(()),
+        Some(WaitEnd::NoMemory) => Err(NoMemory),
+        None => Ok(()),
     }
-    unreachable!()
 }

@@ -1,8 +1,7 @@
-use Rattle.std.proofs.Common.{◌≡◌, List, Result, refl, sym, subst, ap, inl, Ok}
+use Rattle.std.proofs.Common.{refl, sym, subst}
 use Rattle.std.specs.List.{AllZip}
 use Rattle.shard_lock.specs.Passes.{IsOf}
 use Rattle.broker_shards.specs.Acts.{ActsPart}
-use Rattle.broker_locks.specs.Acting.{ActsPlace}
 use Rattle.broker_locks.specs.Shared.{SharedParts}
 use Rattle.broker_locks.proofs.Places.{offer_told_so, place_stay}
 use Rattle.broker_locks.proofs.parts.offer_at.Goals as goal
