@@ -20,6 +20,9 @@ use std::alloc::Global;
 use std::sync::Wait;
 use topic_conf::Config;
 
+// How many bytes are read at a time.
+const PIECE: usize = 65536;
+
 /// How serving a connection ended.
 #[derive(Clone, Copy)]
 pub enum Ended {
@@ -124,8 +127,12 @@ fn reply<K: Link, G: Gate>(
     Ok(())
 }
 
-// Reads what comes next from the link, for a connection that waits.
-fn receive<K: Link>(conn: &mut Conn, link: &mut K) -> Result<Turned, NoMemory>
+// Reads what comes next from the link, for a connection that waits. What the buffer has is any.
+fn receive<K: Link>(
+    conn: &mut Conn,
+    link: &mut K,
+    buffer: &mut [u8; PIECE],
+) -> Result<Turned, NoMemory>
     ensures ok { IfOk result (λ turned. Received turned conn.old conn.new (K.left link.old) (K.left link.new)) }
     ensures err { OnErr result ((conn.new ≡ conn.old) × ((lost : List ℕ) × Consumes (K.left link.old) (K.left link.new) lost)) }
     ensures cause { IfOk result (λ turned.
@@ -133,14 +140,13 @@ fn receive<K: Link>(conn: &mut Conn, link: &mut K) -> Result<Turned, NoMemory>
     ensures same { K.held link.new ≡ K.held link.old }
     ensures later { K.faults link.old ≤ K.faults link.new }
 {
-    let mut piece = [0; 65536];
-    match link.read(&mut piece) {
+    match link.read(buffer) {
         Ok(0) => {
             conn.end();
             Ok(Turned::Closes(Ended::Peer))
         }
         Ok(count) => {
-            let (front, _) = piece.split_at(count);
+            let (front, _) = buffer.split_at(count);
             match conn.feed(front) {
                 Ok(()) => Ok(Turned::Goes),
                 Err(fault) => Err(fault),
@@ -164,6 +170,7 @@ fn turn<R: Wait, K: Link, C: Clock + Drop, G: Gate, D: Disk + Drop>(
     link: &mut K,
     clock: &mut C,
     gate: &G,
+    buffer: &mut [u8; PIECE],
 ) -> Result<Turned, NoMemory>
     requires ready { CanServe conf.now shared.now passes.old conn.old }
     requires answered { conn.old.replies ≡ [] }
@@ -179,7 +186,7 @@ fn turn<R: Wait, K: Link, C: Clock + Drop, G: Gate, D: Disk + Drop>(
     ensures later { K.faults link.old ≤ K.faults link.new }
 {
     match conn.next_part(conf) {
-        Ok(Next::Idle) => receive(conn, link),
+        Ok(Next::Idle) => receive(conn, link, buffer),
         Ok(Next::Ask(part)) => {
             match do_next(
                 rt, conf, shared, passes, number, conn, part, link, clock, gate,
@@ -219,12 +226,24 @@ fn talk<R: Wait, K: Link, C: Clock + Drop, G: Gate, D: Disk + Drop>(
         HasEndCause ended (K.ended link.new) (K.left link.new) (K.faults link.old) (K.faults link.new)) }
     ensures later { K.faults link.old ≤ K.faults link.new }
 {
+    let mut buffer = [0; PIECE];
     for _ in rt.forever() {
         if let Err(_) = reply(conn, link, number, gate) {
             conn.end();
             return Ok(Ended::Write);
         }
-        match turn(rt, conf, shared, passes, number, conn, link, clock, gate) {
+        match turn(
+            rt,
+            conf,
+            shared,
+            passes,
+            number,
+            conn,
+            link,
+            clock,
+            gate,
+            &mut buffer,
+        ) {
             Ok(Turned::Goes) => {}
             Ok(Turned::Closes(ended)) => return Ok(ended),
             Err(fault) => return Err(fault),

@@ -10,6 +10,7 @@ ghost use Rattle.broker_run.specs.Working.{HasWorked};
 
 use crate::desk::Desk;
 use crate::naming::{Handed, Named, Naming};
+use crate::owned::{JobOwned, JobShared};
 use crate::worker::Hand;
 use broker_locks::{Passes, Shared};
 use edge_io::{Clock, Disk, Gate, Link, Listener, Spawner, start};
@@ -133,13 +134,13 @@ fn give_all_back<R: Wait, K: Link + Drop, C: Clock + Drop, D: Disk + Drop, B: Na
 // Starts the expiry worker: false where its job was refused. Where it finds no memory, its passes come back to the
 // desk.
 fn start_sweeper<
-    R: Wait + Clone + Drop + Send + Sync + 'static,
-    K: Link + Drop + Send + 'static,
-    C: Clock + Drop + Send + 'static,
+    R: Wait + Clone + JobShared,
+    K: Link + JobOwned,
+    C: Clock + JobOwned,
     P: Spawner,
-    G: Gate + Drop + Send + Sync + 'static,
-    D: Disk + Drop + Send + 'static,
-    B: Naming<D> + Drop + Send + Sync + 'static,
+    G: Gate + JobShared,
+    D: Disk + JobOwned,
+    B: Naming<D> + JobShared,
 >(
     rt: &R,
     crew: &Crew<K, C, G, D, B>,
@@ -162,13 +163,13 @@ fn start_sweeper<
 
 // Starts a worker: false where its job was refused. Where it finds no memory, its passes come back to the desk.
 fn start_worker<
-    R: Wait + Clone + Drop + Send + Sync + 'static,
-    K: Link + Drop + Send + 'static,
-    C: Clock + Drop + Send + 'static,
+    R: Wait + Clone + JobShared,
+    K: Link + JobOwned,
+    C: Clock + JobOwned,
     P: Spawner,
-    G: Gate + Drop + Send + Sync + 'static,
-    D: Disk + Drop + Send + 'static,
-    B: Naming<D> + Drop + Send + Sync + 'static,
+    G: Gate + JobShared,
+    D: Disk + JobOwned,
+    B: Naming<D> + JobShared,
 >(
     rt: &R,
     alloc: Global,
@@ -196,13 +197,13 @@ fn start_worker<
 
 // Starts a worker for each row of passes: false where a job was refused. Passes that no job took are given back.
 fn start_workers<
-    R: Wait + Clone + Drop + Send + Sync + 'static,
-    K: Link + Drop + Send + 'static,
-    C: Clock + Drop + Send + 'static,
+    R: Wait + Clone + JobShared,
+    K: Link + JobOwned,
+    C: Clock + JobOwned,
     P: Spawner,
-    G: Gate + Drop + Send + Sync + 'static,
-    D: Disk + Drop + Send + 'static,
-    B: Naming<D> + Drop + Send + Sync + 'static,
+    G: Gate + JobShared,
+    D: Disk + JobOwned,
+    B: Naming<D> + JobShared,
 >(
     rt: &R,
     alloc: Global,
@@ -235,13 +236,13 @@ fn start_workers<
 // Starts the expiry worker and the other workers: false where a job was refused. Passes that no job took are given
 // back.
 fn start_all<
-    R: Wait + Clone + Drop + Send + Sync + 'static,
-    K: Link + Drop + Send + 'static,
-    C: Clock + Drop + Send + 'static,
+    R: Wait + Clone + JobShared,
+    K: Link + JobOwned,
+    C: Clock + JobOwned,
     P: Spawner,
-    G: Gate + Drop + Send + Sync + 'static,
-    D: Disk + Drop + Send + 'static,
-    B: Naming<D> + Drop + Send + Sync + 'static,
+    G: Gate + JobShared,
+    D: Disk + JobOwned,
+    B: Naming<D> + JobShared,
 >(
     rt: &R,
     alloc: Global,
@@ -301,13 +302,13 @@ where
 // Starts the jobs, and hands them links.
 #[tactic(auto, using(crate::proofs::Ends::links_end))]
 fn hand_out<
-    R: Wait + Clone + Drop + Send + Sync + 'static,
-    C: Clock + Drop + Send + 'static,
+    R: Wait + Clone + JobShared,
+    C: Clock + JobOwned,
     L: Listener,
     P: Spawner,
-    G: Gate + Drop + Send + Sync + 'static,
-    D: Disk + Drop + Send + 'static,
-    B: Naming<D> + Drop + Send + Sync + 'static,
+    G: Gate + JobShared,
+    D: Disk + JobOwned,
+    B: Naming<D> + JobShared,
 >(
     rt: &R,
     alloc: Global,
@@ -319,7 +320,7 @@ fn hand_out<
     spawner: &mut P,
 ) -> LinksEnd
 where
-    L::L: Drop + Send + 'static,
+    L::L: JobOwned,
     requires { AllByRecursion (IsHome D.seen L.L.left L.L.held C.told B.shared) passes.items }
     ensures { HasLinksEnd result accept (L.given listener.old) (L.given listener.new) (L.done listener.new)
         (L.faults listener.old) (L.faults listener.new) (P.faults spawner.old) (P.faults spawner.new) }
@@ -367,13 +368,13 @@ fn unpack<K: Link, C: Clock, D: Disk, B: Naming<D>>(
 
 // Serves so many links by jobs that know the locks by name. None: memory ran out before the first job was started.
 fn serve_named<
-    R: Wait + Clone + Drop + Send + Sync + 'static,
-    C: Clock + Drop + Send + 'static,
+    R: Wait + Clone + JobShared,
+    C: Clock + JobOwned,
     L: Listener,
     P: Spawner,
-    G: Gate + Drop + Send + Sync + 'static,
-    D: Disk + Drop + Send + 'static,
-    B: Naming<D> + Drop + Send + Sync + 'static,
+    G: Gate + JobShared,
+    D: Disk + JobOwned,
+    B: Naming<D> + JobShared,
 >(
     rt: &R,
     alloc: Global,
@@ -386,7 +387,7 @@ fn serve_named<
     gate: G,
 ) -> Option<(LinksEnd, Shared<D>, Vec<Passes<D>>)>
 where
-    L::L: Drop + Send + 'static,
+    L::L: JobOwned,
     requires named { IsNamed B.shared shared }
     requires all { AreAll shared (length passes.items) passes.items }
     requires unused { AllByRecursion IsUnused passes.items }
@@ -418,12 +419,12 @@ where
 /// taken, and each is handed to one worker. Where a job is refused, the end is told to all, and that job is done
 /// here. Nothing else is done through the passes.
 pub fn serve_links<
-    R: Wait + Clone + Drop + Send + Sync + 'static,
-    C: Clock + Drop + Send + 'static,
+    R: Wait + Clone + JobShared,
+    C: Clock + JobOwned,
     L: Listener,
     P: Spawner,
-    G: Gate + Drop + Send + Sync + 'static,
-    D: Disk + Drop + Send + 'static,
+    G: Gate + JobShared,
+    D: Disk + JobOwned,
 >(
     rt: &R,
     alloc: Global,
@@ -436,7 +437,7 @@ pub fn serve_links<
     gate: G,
 ) -> Option<(LinksEnd, Shared<D>, Vec<Passes<D>>)>
 where
-    L::L: Drop + Send + 'static,
+    L::L: JobOwned,
     requires hosts { HostsAll shared.conf shared }
     requires all { AreAll shared (length passes.items) passes.items }
     requires unused { AllByRecursion IsUnused passes.items }

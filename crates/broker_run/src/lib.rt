@@ -6,10 +6,12 @@ mod connection;
 mod desk;
 mod jobs;
 mod naming;
+mod owned;
 mod server;
 mod worker;
 
 pub use connection::{Ended, serve_connection};
 pub use jobs::{LinksEnd, serve_links};
 pub use naming::{Handed, Named, Naming};
+pub use owned::{JobOwned, JobShared};
 pub use server::{Served, serve};

@@ -9,6 +9,7 @@ ghost use Rattle.broker_run.specs.Server.{EndsServing, Serves};
 ghost use Rattle.broker_run.specs.Working.{HasWorked};
 
 use crate::jobs::{LinksEnd, serve_links};
+use crate::owned::{JobOwned, JobShared};
 use broker_core::CoreOpen;
 use broker_locks::{close_shared, open_shared};
 use edge_io::{Bay, Clock, Disk, Gate, Listener, Spawner};
@@ -30,13 +31,13 @@ pub enum Served {
 ///
 /// After a refusal other than for want of memory each disk is back in the bay, and no link was taken.
 pub fn serve<
-    R: Wait + Clone + Drop + Send + Sync + 'static,
-    D: Disk + Drop + Send + 'static,
+    R: Wait + Clone + JobShared,
+    D: Disk + JobOwned,
     B: Bay<D = D>,
-    C: Clock + Drop + Send + 'static,
+    C: Clock + JobOwned,
     L: Listener,
     P: Spawner,
-    G: Gate + Drop + Send + Sync + 'static,
+    G: Gate + JobShared,
 >(
     rt: &R,
     alloc: Global,
@@ -50,7 +51,7 @@ pub fn serve<
     gate: G,
 ) -> Served
 where
-    L::L: Drop + Send + 'static,
+    L::L: JobOwned,
     requires out { AreOut B.seen [] bay.old }
     requires few { workers + 1 < 2 ^ 32 }
 

@@ -12,7 +12,7 @@ ghost use Rattle.share_top.specs.Sessions.{HoldsStates};
 use crate::refusal::refuse;
 use crate::status::Status;
 use crate::words::ServeWords;
-use broker_run::{LinksEnd, Served};
+use broker_run::{JobOwned, JobShared, LinksEnd, Served};
 use edge_io::{Bay, Clock, Disk, Listener, NoGate, Sink, Spawner};
 use std::alloc::Global;
 use std::sync::Wait;
@@ -31,11 +31,11 @@ fn status_of(end: LinksEnd) -> Status
 
 /// Opens the broker over the bay, serves as many links as the words say, and puts the disks back.
 pub fn serve<
-    R: Wait + Clone + Drop + Send + Sync + 'static,
+    R: Wait + Clone + JobShared,
     O: Sink,
-    D: Disk + Drop + Send + 'static,
+    D: Disk + JobOwned,
     B: Bay<D = D>,
-    C: Clock + Drop + Send + 'static,
+    C: Clock + JobOwned,
     L: Listener,
     P: Spawner,
 >(
@@ -49,7 +49,7 @@ pub fn serve<
     spawner: &mut P,
 ) -> Status
 where
-    L::L: Drop + Send + 'static,
+    L::L: JobOwned,
     requires home { NoneIsOut B.seen bay.old }
     requires few { words.workers ≤ 256 }
     ensures serve { IsServe (bay_change B.seen D.seen bay.old bay.new)
