@@ -1,6 +1,6 @@
 -- The heartbeats of a member (KIP-932, ShareGroupHeartbeat of version 1): when one is due, what it says, and what its reply says.
 -- For example a member that joins at moment 7 and is told the interval 5000 has its next heartbeat due at 5007.
-use Rattle.std.specs.Prelude.{◌≡◌, ◌+◌, ◌^◌, ℕ, ℤ, pos, negsuc, Bool, true, false, not, ◌&&◌, ◌||◌, List, [], ◌∷◌, ◌++◌, Option, Some, None, is_none, Result, Ok, Err, nat_le, if◌then◌else◌}
+use Rattle.std.specs.Prelude.{◌≡◌, ◌+◌, ◌^◌, ℕ, ℤ, pos, negsuc, Bool, true, false, not, ◌&&◌, ◌||◌, List, [], ◌∷◌, ◌++◌, Option, Some, None, Result, Ok, Err, if◌then◌else◌}
 use Rattle.std.specs.Ordering.{int_eq}
 use Rattle.std.specs.Option.{option_flatten, option_map_or, unwrap_or}
 use Rattle.msgs_group.specs.declared.heartbeat_reply.Assignment.{Assignment}
@@ -19,7 +19,7 @@ use Rattle.share_client.specs.declared.fault.ClientFault.{ClientFault}
 use Rattle.share_client.specs.declared.fault.ClientFault.TheVariants.{Refused}
 use Rattle.share_client.specs.Frames.{framed, reply_in, said}
 use Rattle.share_client.specs.Traces.{Call, Trace, newest}
-use Rattle.share_client.specs.Traces.Call.{Asked, Got, Lost}
+use Rattle.share_client.specs.Traces.Call.{Asked, Got, Lost, Wrote}
 
 -- the topic's name where the member joins, and else null
 abbrev pub topics_for : List ℕ → ℤ → Option (List (List ℕ))
@@ -109,10 +109,6 @@ assigned_by call before = None
 -- what the member is to read, by the last reply that says it
 abbrev pub assigned : Trace → Option Assignment
 assigned trace = newest assigned_by trace
-
--- a heartbeat is due, and none awaits its reply
-abbrev pub is_due : Trace → ℕ → Bool
-is_due trace now = is_none (awaited trace) && nat_le (due_from trace) now
 
 -- until when to wait: the moment at which a heartbeat is due, and without end where one awaits its reply
 abbrev pub waits_until : Trace → ℕ

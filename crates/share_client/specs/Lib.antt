@@ -11,3 +11,10 @@ pub mod Locating
 pub mod Grants
 pub mod Spans
 pub mod Fetches
+pub mod Records
+pub mod Deliveries
+pub mod Readers
+pub mod Partitions
+pub mod DataLinks
+pub mod Kept
+pub mod Promises

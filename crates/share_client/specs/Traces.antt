@@ -1,7 +1,7 @@
 -- A trace: the calls of a consumer with their answers, the newest first. This project's own.
 -- For example a consumer that was asked once, at moment 7, and gave its first heartbeat, has a trace of one call.
 use Rattle.std.specs.Prelude.{ℕ, ℤ, zero, suc, pos, Bool, true, false, ◌||◌, List, [], ◌∷◌, Option, Some, None, Result, Ok, Err, if◌then◌else◌}
-use Rattle.std.specs.Option.{option_or}
+use Rattle.std.specs.Option.{option_or, unwrap_or}
 use Rattle.flex_fields.specs.declared.fault.NoMemory.{NoMemory}
 use Rattle.share_session.specs.Sessions.{next_epoch}
 use Rattle.share_client.specs.declared.fault.ClientFault.{ClientFault}
@@ -19,6 +19,8 @@ pub data Call : Type 0 where
   Got : (on : LinkKind) (frame : List ℕ) (answer : Result Took ClientFault) → Call
   -- a link ended
   Lost : (on : LinkKind) → Call
+  -- the lines that were handed out are written
+  Wrote : Call
 
 abbrev pub Trace : Type 0
 Trace = List Call
@@ -33,6 +35,7 @@ is_fault (Got on frame (Err fault)) = true
 is_fault (Got on frame (Ok took)) = false
 is_fault (Asked now answer) = false
 is_fault (Lost on) = false
+is_fault Wrote = false
 
 -- whether a reply was a fault
 abbrev pub is_over : Trace → Bool
@@ -54,3 +57,12 @@ requests on (call ∷ before) = if is_request on call then suc (requests on befo
 abbrev pub correlation : ℕ → ℤ
 correlation zero = pos 0
 correlation (suc n) = next_epoch (correlation n)
+
+abbrev pub writing_by : Call → Trace → Option Bool
+writing_by (Asked now (Ok (Write lines))) before = Some true
+writing_by Wrote before = Some false
+writing_by call before = None
+
+-- lines were handed out that aren't yet said to be written
+abbrev pub is_writing : Trace → Bool
+is_writing trace = unwrap_or (newest writing_by trace) false

@@ -47,9 +47,9 @@ fn length_in(bytes: &[u8]) -> Option<u32>
     }
 }
 
-// How many bytes the batch in front has, if one stands there.
+/// How many bytes the batch in front has, if one stands there.
 #[tactic(auto, using(crate::proofs::Walking::sized_short, crate::proofs::Walking::sized_below, crate::proofs::Walking::sized_more, crate::proofs::Walking::sized_is))]
-fn size_in(bytes: &[u8]) -> Option<usize>
+pub fn size_in(bytes: &[u8]) -> Option<usize>
     ensures { IsSized bytes.now result }
 {
     if bytes.len() < HEADER_SIZE {

@@ -1,97 +1,172 @@
-ghost use Rattle.std.specs.Prelude.{◌≡◌, ◌≤◌, ◌^◌, ◌||◌, [], ◌∷◌, List, is_err};
+ghost use Rattle.std.specs.Prelude.{◌≡◌, ◌≤◌, ◌^◌, ◌||◌, [], ◌∷◌, List, true};
 ghost use Rattle.share_client.specs.declared.conf.ClientConf.{ClientConf};
 ghost use Rattle.share_client.specs.Frames.{IsFrame};
-ghost use Rattle.share_client.specs.Traces.{Call};
-ghost use Rattle.share_client.specs.Traces.Call.{Asked, Got, Lost};
+ghost use Rattle.share_client.specs.Traces.{Call, is_writing};
+ghost use Rattle.share_client.specs.Traces.Call.{Asked, Got, Lost, Wrote};
 ghost use Rattle.share_client.specs.Cores.{StandsFor};
-ghost use Rattle.share_client.specs.Groups.{LosesOn, RepliesBy, StepsBy, TakesOn};
+ghost use Rattle.share_client.specs.Groups.{BeatsBy, GoesOnBy, LosesOn, RepliesBy, StepsBy, TakesOn, ends_with, parts_with};
+ghost use Rattle.share_client.specs.Kept.{unacknowledged};
 
 use crate::conf::ClientConf;
+use crate::data_link::DataLink;
 use crate::fault::ClientFault;
 use crate::group::GroupLink;
 use crate::step::{ClientStep, LinkKind, Took};
 use share_model::NoMemory;
 use std::alloc::Global;
 
-/// A share consumer: it joins its group and stays in it. It fetches nothing yet.
+/// A share consumer: it stays in its group, takes as many records as it was asked for, and leaves.
 #[derive(Drop)]
 pub struct ClientCore {
     conf: ClientConf,
     group: GroupLink,
+    fetches: DataLink,
+    /// Whether the last heartbeat leaves the group.
+    parting: bool,
     ended: bool,
 }
 
 // Takes a frame that came on a link.
 fn take_on(
     group: &mut GroupLink,
+    fetches: &mut DataLink,
     alloc: Global,
     on: LinkKind,
     frame: &[u8],
 ) -> Result<Took, ClientFault>
     requires { IsFrame frame.now }
-    ensures { TakesOn on frame.now group.old result group.new }
+    ensures { TakesOn on frame.now group.old fetches.old result group.new fetches.new }
 {
     match on {
         LinkKind::Group => group.take(alloc, frame),
-        LinkKind::Data => Ok(Took::Stray),
+        LinkKind::Data => fetches.take(alloc, frame),
     }
 }
 
 // A link ended.
-fn lose_on(group: &mut GroupLink, on: LinkKind)
-    ensures { LosesOn on group.old group.new }
+fn lose_on(group: &mut GroupLink, fetches: &mut DataLink, on: LinkKind)
+    ensures { LosesOn on group.old fetches.old group.new fetches.new }
 {
     match on {
         LinkKind::Group => group.lose(),
-        LinkKind::Data => {}
+        LinkKind::Data => fetches.lose(),
     }
 }
 
-// Takes a frame that came on a link, unless there was a fault.
+// Takes a frame that came on a link, unless the consumer is at its end.
 fn reply_on(
     group: &mut GroupLink,
+    fetches: &mut DataLink,
     alloc: Global,
     ended: bool,
     on: LinkKind,
     frame: &[u8],
 ) -> Result<Took, ClientFault>
     requires { IsFrame frame.now }
-    ensures { RepliesBy ended on frame.now group.old result group.new }
+    ensures { RepliesBy ended on frame.now group.old fetches.old result group.new fetches.new }
 {
     if ended {
         return Ok(Took::Stray);
     }
-    take_on(group, alloc, on, frame)
+    take_on(group, fetches, alloc, on, frame)
 }
 
-// Whether there was a fault.
-fn ends(ended: bool, took: &Result<Took, ClientFault>) -> bool
-    ensures { result ≡ (ended || is_err took.now) }
+// Whether an answer to a frame ends the consumer.
+fn ends_with(on: LinkKind, parting: bool, took: &Result<Took, ClientFault>) -> bool
+    ensures { result ≡ ends_with on parting took.now }
 {
-    ended || took.is_err()
+    match took {
+        Err(_) => true,
+        Ok(Took::Stray) => false,
+        Ok(Took::Taken) => match on {
+            LinkKind::Group => parting,
+            LinkKind::Data => false,
+        },
+    }
+}
+
+// Whether the consumer is at its end behind an answer to a frame.
+fn ends(ended: bool, on: LinkKind, parting: bool, took: &Result<Took, ClientFault>) -> bool
+    ensures { result ≡ (ended || ends_with on parting took.now) }
+{
+    ended || ends_with(on, parting, took)
+}
+
+// Whether the last heartbeat leaves the group, behind an answer.
+fn parts_with(leaving: bool, parting: bool, step: &Result<ClientStep, NoMemory>) -> bool
+    ensures { result ≡ parts_with leaving parting step.now }
+{
+    match step {
+        Ok(ClientStep::Heartbeat(_)) => leaving,
+        Ok(ClientStep::Fetch(_)) => parting,
+        Ok(ClientStep::Write(_)) => parting,
+        Ok(ClientStep::Wait { .. }) => parting,
+        Ok(ClientStep::Done) => parting,
+        Err(_) => parting,
+    }
+}
+
+// A request on the data link, or to wait.
+fn fetch_or_wait(
+    group: &GroupLink,
+    fetches: &mut DataLink,
+    alloc: Global,
+    conf: &ClientConf,
+) -> Result<ClientStep, NoMemory>
+    ensures { GoesOnBy conf.now group.now fetches.old result fetches.new }
+{
+    if !fetches.sends(&group.assigned) {
+        return Ok(ClientStep::Wait {
+            until: group.wait_end(),
+        });
+    }
+    match fetches.ask(alloc, conf, &group.assigned) {
+        Ok(frame) => Ok(ClientStep::Fetch(frame)),
+        Err(fault) => Err(fault),
+    }
+}
+
+// A heartbeat, a request on the data link, or to wait.
+fn beat_or_fetch(
+    group: &mut GroupLink,
+    fetches: &mut DataLink,
+    alloc: Global,
+    conf: &ClientConf,
+    now: u64,
+) -> Result<ClientStep, NoMemory>
+    requires { now ≤ 2 ^ 62 }
+    ensures { BeatsBy conf.now now group.old fetches.old result group.new fetches.new }
+{
+    let leaving = fetches.left;
+    if !group.is_due(leaving, now) {
+        return fetch_or_wait(group, fetches, alloc, conf);
+    }
+    match group.ask(alloc, conf, leaving, now) {
+        Ok(frame) => Ok(ClientStep::Heartbeat(frame)),
+        Err(fault) => Err(fault),
+    }
 }
 
 // What is to be done.
 fn step(
     group: &mut GroupLink,
+    fetches: &mut DataLink,
     alloc: Global,
     conf: &ClientConf,
     ended: bool,
     now: u64,
 ) -> Result<ClientStep, NoMemory>
     requires { now ≤ 2 ^ 62 }
-    ensures { StepsBy conf.now ended now group.old result group.new }
+    ensures { StepsBy conf.now ended now group.old fetches.old result group.new fetches.new }
 {
     if ended {
         return Ok(ClientStep::Done);
     }
-    if !group.is_due(now) {
-        return Ok(ClientStep::Wait {
-            until: group.wait_end(),
-        });
+    if !fetches.writes() {
+        return beat_or_fetch(group, fetches, alloc, conf, now);
     }
-    match group.ask(alloc, conf, now) {
-        Ok(frame) => Ok(ClientStep::Heartbeat(frame)),
+    match fetches.text(alloc) {
+        Ok(text) => Ok(ClientStep::Write(text)),
         Err(fault) => Err(fault),
     }
 }
@@ -104,6 +179,8 @@ impl ClientCore {
         ClientCore {
             conf,
             group: GroupLink::new(),
+            fetches: DataLink::new(conf.count),
+            parting: false,
             ended: false,
         }
     }
@@ -113,7 +190,16 @@ impl ClientCore {
         requires { now ≤ 2 ^ 62 }
         ensures { (conf : ClientConf) (trace : List Call) → StandsFor conf self.old trace → StandsFor conf self.new (Asked now result ∷ trace) }
     {
-        step(&mut self.group, alloc, &self.conf, self.ended, now)
+        let next = step(
+            &mut self.group,
+            &mut self.fetches,
+            alloc,
+            &self.conf,
+            self.ended,
+            now,
+        );
+        self.parting = parts_with(self.fetches.left, self.parting, &next);
+        next
     }
 
     /// Takes a frame that came on a link. Behind a fault the consumer is done.
@@ -121,15 +207,39 @@ impl ClientCore {
         requires { IsFrame frame.now }
         ensures { (conf : ClientConf) (trace : List Call) → StandsFor conf self.old trace → StandsFor conf self.new (Got on frame.now result ∷ trace) }
     {
-        let took = reply_on(&mut self.group, alloc, self.ended, on, frame);
-        self.ended = ends(self.ended, &took);
+        let took = reply_on(
+            &mut self.group,
+            &mut self.fetches,
+            alloc,
+            self.ended,
+            on,
+            frame,
+        );
+        self.ended = ends(self.ended, on, self.parting, &took);
         took
+    }
+
+    /// The lines that `next` handed out last are written.
+    pub fn wrote(&mut self)
+        requires { (conf : ClientConf) × (trace : List Call) × StandsFor conf self.old trace × (is_writing trace ≡ true) }
+        ensures { (conf : ClientConf) (trace : List Call) → StandsFor conf self.old trace → is_writing trace ≡ true
+            → StandsFor conf self.new (Wrote ∷ trace) }
+    {
+        self.fetches.wrote();
     }
 
     /// A link ended, and another one comes in its place.
     pub fn lost(&mut self, on: LinkKind)
         ensures { (conf : ClientConf) (trace : List Call) → StandsFor conf self.old trace → StandsFor conf self.new (Lost on ∷ trace) }
     {
-        lose_on(&mut self.group, on);
+        lose_on(&mut self.group, &mut self.fetches, on);
+    }
+
+    /// Whether all records are written, and the data link was lost behind the reply with the last of them, before that of
+    /// the last acknowledgement.
+    pub fn unacknowledged(&self) -> bool
+        ensures { (conf : ClientConf) (trace : List Call) → StandsFor conf self.now trace → result ≡ unacknowledged conf trace }
+    {
+        self.fetches.wanted == 0 && self.fetches.cut
     }
 }

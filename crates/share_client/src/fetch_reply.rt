@@ -4,7 +4,7 @@ ghost use Rattle.req_head.specs.Heads.{reply_head};
 ghost use Rattle.flex_fields.specs.Cursors.{Gives};
 ghost use Rattle.flex_fields.specs.Reading.{whole_at};
 ghost use Rattle.share_client.specs.Frames.{IsAnswer, IsFrame, said};
-ghost use Rattle.share_client.specs.Fetches.{HearsFetch, IsJudged, ends_consumer, located_in};
+ghost use Rattle.share_client.specs.Fetches.{HearsFetch, IsJudged, ends_consumer, located_in, starts_anew};
 
 use crate::fault::{ClientFault, fault_of};
 use crate::fetched::LocatedFetch;
@@ -61,11 +61,18 @@ fn judge(alloc: Global, reply: &LocatedFetch, most: u32) -> Result<(), ClientFau
     judge_topics(alloc, &mut tally, reply.responses.as_slice())
 }
 
-// Whether a code ends the consumer.
-fn ends_consumer(code: i16) -> bool
+/// Whether the session is to start anew.
+pub fn starts_anew(code: i16) -> bool
+    ensures { result ≡ starts_anew code }
+{
+    code == SHARE_SESSION_NOT_FOUND || code == INVALID_SHARE_SESSION_EPOCH
+}
+
+/// Whether a code ends the consumer.
+pub fn ends_consumer(code: i16) -> bool
     ensures { result ≡ ends_consumer code }
 {
-    code != 0 && code != SHARE_SESSION_NOT_FOUND && code != INVALID_SHARE_SESSION_EPOCH
+    code != 0 && !starts_anew(code)
 }
 
 /// What is heard by a frame that is the reply to a ShareFetch which allows so many offsets.

@@ -6,6 +6,7 @@ ghost use Rattle.share_session.specs.Sessions.{next_epoch};
 ghost use Rattle.share_client.specs.declared.step.Took.TheVariants.{Stray};
 ghost use Rattle.share_client.specs.Frames.{IsAnswer, IsFrame};
 ghost use Rattle.share_client.specs.Heartbeats.{epoch_of, heard, heartbeat, heartbeat_frame, is_refusal, rejoins, topics_for};
+ghost use Rattle.share_client.specs.Kept.{beat_epoch};
 ghost use Rattle.share_client.specs.Groups.{HearsReply, IsAsked, IsLost, IsTold, asks_now, due_behind, group_awaits, new_group, wait_end};
 
 use crate::conf::ClientConf;
@@ -26,6 +27,8 @@ const HEARTBEAT_VERSION: i16 = 1;
 const UNKNOWN_MEMBER_ID: i16 = 25;
 
 const FENCED_MEMBER_EPOCH: i16 = 110;
+
+const LEAVING_EPOCH: i32 = -1;
 
 const END_OF_TIME: u64 = 1 << 62;
 
@@ -180,11 +183,11 @@ impl GroupLink {
         }
     }
 
-    /// Whether a heartbeat is to be sent.
-    pub fn is_due(&self, now: u64) -> bool
-        ensures { result ≡ asks_now self.now now }
+    /// Whether a heartbeat is to be sent, one that leaves the group at once.
+    pub fn is_due(&self, leaving: bool, now: u64) -> bool
+        ensures { result ≡ asks_now self.now leaving now }
     {
-        self.asked.is_none() && self.due <= now
+        self.asked.is_none() && (leaving || self.due <= now)
     }
 
     /// Until when no heartbeat is due.
@@ -198,14 +201,21 @@ impl GroupLink {
     }
 
     /// Makes the next heartbeat. Where there is no memory for it, nothing changes.
-    pub fn ask(&mut self, alloc: Global, conf: &ClientConf, now: u64) -> Result<Blob, NoMemory>
+    pub fn ask(
+        &mut self,
+        alloc: Global,
+        conf: &ClientConf,
+        leaving: bool,
+        now: u64,
+    ) -> Result<Blob, NoMemory>
         requires { now ≤ 2 ^ 62 }
-        ensures frame { IfOk result (λ frame. frame ≡ heartbeat_frame conf.now (next_epoch self.old.number) self.old.epoch) }
+        ensures frame { IfOk result (λ frame. frame ≡ heartbeat_frame conf.now (next_epoch self.old.number) (beat_epoch leaving self.old.epoch)) }
         ensures ok { OnOk result (IsAsked now self.old self.new) }
         ensures err { OnErr result (self.new ≡ self.old) }
     {
         let number = next_epoch(self.number);
-        let frame = heartbeat_frame(alloc, conf, number, self.epoch)?;
+        let epoch = if leaving { LEAVING_EPOCH } else { self.epoch };
+        let frame = heartbeat_frame(alloc, conf, number, epoch)?;
         self.number = number;
         self.asked = Some(Moment::new(now));
         Ok(frame)
