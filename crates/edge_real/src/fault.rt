@@ -19,6 +19,7 @@ pub enum SystemCall {
     Sync,
     Bind,
     Accept,
+    Connect,
     StartThread,
 }
 
@@ -38,6 +39,7 @@ impl fmt::Display for SystemCall {
             SystemCall::Sync => "sync",
             SystemCall::Bind => "bind",
             SystemCall::Accept => "accept",
+            SystemCall::Connect => "connect",
             SystemCall::StartThread => "start thread",
         };
         f.write_str(words)

@@ -8,6 +8,7 @@
 #![tactic(auto)]
 
 mod bay;
+mod calls;
 mod clock;
 mod evidence;
 mod fault;
@@ -23,6 +24,7 @@ mod streams;
 mod system;
 
 pub use bay::FolderBay;
+pub use calls::TcpCalls;
 pub use clock::SystemClock;
 pub use evidence::{KeepFault, Kept, keep_behind, lacks_bytes, seen_behind};
 pub use fault::{FolderFault, FolderPart, SystemCall, SystemFault};
