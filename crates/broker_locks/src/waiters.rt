@@ -8,6 +8,15 @@ use std::alloc::Global;
 use std::sync::atomic::{AtomicBool, AtomicU64, Ordering};
 use std::sync::{Mutex, Wait};
 
+// The waker of each seat, each behind a lock of its own: those that are woken together don't queue to wait again.
+fn locked_seats(alloc: Global, seats: u32) -> Result<Vec<Mutex<Option<Waker>>>, NoMemory> {
+    let mut slots = Vec::with_capacity(alloc, seats as usize)?;
+    for _ in 0..seats {
+        slots.push(Mutex::new(None))?;
+    }
+    Ok(slots)
+}
+
 // No waker for any of so many seats.
 fn empty_seats(alloc: Global, seats: u32) -> Result<Vec<Option<Waker>>, NoMemory> {
     let mut slots = Vec::with_capacity(alloc, seats as usize)?;
@@ -17,12 +26,12 @@ fn empty_seats(alloc: Global, seats: u32) -> Result<Vec<Option<Waker>>, NoMemory
     Ok(slots)
 }
 
-/// Those who wait for one partition, a place a seat.
+/// Those who wait for one partition, or for a turn of expiries, a place a seat.
 #[derive(Drop)]
 pub struct Waiters {
     source: Source,
     some: AtomicBool,
-    seats: Mutex<Vec<Option<Waker>>>,
+    seats: Vec<Mutex<Option<Waker>>>,
 }
 
 impl Waiters {
@@ -30,7 +39,7 @@ impl Waiters {
         Ok(Waiters {
             source: Source::new(),
             some: AtomicBool::new(false),
-            seats: Mutex::new(empty_seats(alloc, seats)?),
+            seats: locked_seats(alloc, seats)?,
         })
     }
 
@@ -39,40 +48,24 @@ impl Waiters {
         ensures armed { IsArmed cx.new }
         ensures kept { Keeps cx.old cx.new }
     {
-        let mut seats = self.seats.lock(rt);
-        self.some.store(true, Ordering::SeqCst);
-        let seats = &mut *seats;
-        let _: Poll<()> = match seats.get_mut(seat) {
-            Some(slot) => cx.register(&self.source, slot),
+        let _: Poll<()> = match self.seats.get(seat) {
+            Some(place) => {
+                let mut slot = place.lock(rt);
+                cx.register(&self.source, &mut slot)
+            }
             None => cx.yield_now(),
         };
-    }
-
-    // How many seats there are, where somebody waits.
-    fn waiting_seats<R: Wait>(&self, rt: &R) -> usize {
-        if !self.some.load(Ordering::SeqCst) {
-            return 0;
-        }
-        let seats = self.seats.lock(rt);
-        self.some.store(false, Ordering::SeqCst);
-        seats.len()
-    }
-
-    // The waker of a seat. The place is free for another as soon as it is taken.
-    fn take<R: Wait>(&self, rt: &R, seat: usize) -> Option<Waker> {
-        let mut seats = self.seats.lock(rt);
-        let seats = &mut *seats;
-        match seats.get_mut(seat) {
-            Some(slot) => slot.take(),
-            None => None,
-        }
+        self.some.store(true, Ordering::SeqCst);
     }
 
     /// Wakes all. Whoever looked at the partition before it changed is seen to wait, as both went through its lock.
-    /// None is woken while the place of another is held, so those that are awake don't wait for each other.
+    /// A waker is dropped, which wakes, behind its place: whoever is awake doesn't wait for that.
     pub fn wake<R: Wait>(&self, rt: &R) {
-        for seat in 0..self.waiting_seats(rt) {
-            let waker = self.take(rt, seat);
+        if !self.some.swap(false, Ordering::SeqCst) {
+            return;
+        }
+        for place in &self.seats {
+            let waker = place.lock(rt).take();
             drop(waker);
         }
     }
