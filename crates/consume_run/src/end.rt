@@ -6,7 +6,8 @@ use share_client::ClientFault;
 /// How a consumer's program ended.
 #[derive(Clone, Copy, Debug)]
 pub enum ConsumeEnd {
-    /// As many records as were asked for were written and acknowledged, and the member has left its group.
+    /// As many records as were asked for were written, the last acknowledgement was answered, and the member has left
+    /// its group.
     Done,
     /// A reply has this error code.
     Refused { code: i16 },

@@ -9,9 +9,9 @@ use Rattle.broker_model.specs.Hosted.{IsTaken}
 use Rattle.broker_model.proofs.Holds.{holds}
 use Rattle.broker_model.proofs.Passing.{openings_well}
 use Rattle.share_top.specs.declared.status.Status.{Status}
-use Rattle.share_top.specs.declared.status.Status.TheVariants.{Done, Usage, Malformed, ReadFault, WriteFault, Damaged, Device, NoMemory, Listener, Spawner}
+use Rattle.share_top.specs.declared.status.Status.TheVariants.{Done, Usage, Malformed, ReadFault, WriteFault, Damaged, Device, NoMemory, Listener, Spawner, Lost, Refused, Strange}
 use Rattle.share_top.specs.declared.words.Words.{Words}
-use Rattle.share_top.specs.declared.words.Words.TheVariants.{Replay, Load, DumpState, Gen, Serve}
+use Rattle.share_top.specs.declared.words.Words.TheVariants.{Replay, Load, DumpState, Gen, Serve, Consume}
 use Rattle.share_top.specs.Apart.{LeavesOthers}
 use Rattle.share_top.specs.Changes.{BayChange, Call, InputChange, OutputChange, ServerChange}
 use Rattle.share_top.specs.Commands.{Does, DoesNothing, DoesWords}
@@ -20,7 +20,7 @@ use Rattle.share_top.specs.Promises.{PromisesOfReplay}
 use Rattle.share_top.specs.Replaying.{IsReplay, ReplaysScript}
 use Rattle.share_top.specs.Sessions.{CountRose, HoldsStates}
 use Rattle.share_top.specs.Statuses.{status_number}
-use Rattle.share_top.specs.Words.{AreOfCommand, AreOfServe}
+use Rattle.share_top.specs.Words.{AreOfCommand, AreOfConsume, AreOfServe}
 use Rattle.share_top.proofs.Completes.{completes_on, not_device_on}
 
 -- where a status isn't that of an output's fault, the count of those is as before
@@ -73,6 +73,12 @@ module _ {B D : Type 0} (bay : BayChange B D) (conf : ConfigParts) (status : Sta
   done Listener (inr d) whole fed quiet = absurd d.1
   done Spawner (inl d) whole fed quiet = absurd d
   done Spawner (inr d) whole fed quiet = absurd d.1
+  done Lost (inl d) whole fed quiet = absurd d
+  done Lost (inr d) whole fed quiet = absurd d.1
+  done Refused (inl d) whole fed quiet = absurd d
+  done Refused (inr d) whole fed quiet = absurd d.1
+  done Strange (inl d) whole fed quiet = absurd d
+  done Strange (inr d) whole fed quiet = absurd d.1
   done Malformed (inl d) whole fed quiet = absurd d
   done Malformed (inr d) whole fed quiet = absurd d.1
   done ReadFault (inl d) whole fed quiet = absurd d
@@ -88,9 +94,9 @@ module _ {B D : Type 0} (bay : BayChange B D) (conf : ConfigParts) (status : Sta
 
 -- ---- beside a server
 
--- what a call did that was handed nothing for a server, whose words are those of none
+-- what a call did that was handed nothing for a server, whose words are those of none, and of no share consumer
 module _ {B D : Type 0} (words : List (String Global)) (number : ℕ) (bay : BayChange B D) (input : InputChange) (output : OutputChange)
-    (alone server : ServerChange D) (none : AreOfServe words → ⊥) (no_link : server.listener.Same) (no_job : server.spawner.Same) where
+    (alone server : ServerChange D) (none : AreOfServe words → ⊥) (unlinked : AreOfConsume words → ⊥) (no_link : server.listener.Same) (no_job : server.spawner.Same) where
   abbrev Alone : Call B D
   Alone = record { words = words; number = number; bay = bay; input = input; output = output; server = alone }
 
@@ -103,6 +109,7 @@ module _ {B D : Type 0} (words : List (String Global)) (number : ℕ) (bay : Bay
   as_well (DumpState conf) status are d = d
   as_well (Gen n) status are d = d
   as_well (Serve listen serve) status are d = absurd (none (listen, serve, are))
+  as_well (Consume connect conf) status are d = absurd (unlinked (connect, conf, are))
 
   pub does_beside : Does Alone → Does Beside
   does_beside (inl d) = inl (record { why = d.why; untouched = d.untouched; unserved = (no_link, no_job) })

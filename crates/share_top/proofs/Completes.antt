@@ -6,7 +6,7 @@ use Rattle.session_script.specs.declared.event.Outcome.{Outcome}
 use Rattle.session_script.specs.Script.{IsScript}
 use Rattle.topic_conf.specs.Configs.{ConfigParts}
 use Rattle.share_top.specs.declared.status.Status.{Status}
-use Rattle.share_top.specs.declared.status.Status.TheVariants.{Done, Usage, Malformed, ReadFault, WriteFault, Damaged, Device, NoMemory, Listener, Spawner}
+use Rattle.share_top.specs.declared.status.Status.TheVariants.{Done, Usage, Malformed, ReadFault, WriteFault, Damaged, Device, NoMemory, Listener, Spawner, Lost, Refused, Strange}
 use Rattle.share_top.specs.Changes.{BayChange, InputChange, OutputChange}
 use Rattle.share_top.specs.Replaying.{IsComplete, IsReplay}
 use Rattle.share_top.specs.Sessions.{Ending, IsSession, OfBay, OverBay, HoldsStates, CountRose}
@@ -42,6 +42,12 @@ module _ {B D : Type 0} (bay : BayChange B D) (conf : ConfigParts) (summary : Bo
   completes Listener (inr e) whole fed read write = absurd e.2
   completes Spawner (inl e) whole fed read write = absurd e
   completes Spawner (inr e) whole fed read write = absurd e.2
+  completes Lost (inl e) whole fed read write = absurd e
+  completes Lost (inr e) whole fed read write = absurd e.2
+  completes Refused (inl e) whole fed read write = absurd e
+  completes Refused (inr e) whole fed read write = absurd e.2
+  completes Strange (inl e) whole fed read write = absurd e
+  completes Strange (inr e) whole fed read write = absurd e.2
   completes Malformed (inl e) whole fed read write = none_refused _ Malformed e
   completes Malformed (inr e) whole fed read write = absurd e.2
   completes ReadFault (inl e) whole fed read write = absurd (read e.0)

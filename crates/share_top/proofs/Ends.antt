@@ -31,7 +31,7 @@ use Rattle.broker_core.specs.Restarts.{IsDamagedDisk, IsOpenedDisk}
 use Rattle.broker_core.proofs.Opening.{is_told}
 use Rattle.broker_core.proofs.Places.{is_same, one_in_either, same_self}
 use Rattle.share_top.specs.declared.status.Status.{Status}
-use Rattle.share_top.specs.declared.status.Status.TheVariants.{Done, Usage, Malformed, ReadFault, WriteFault, Damaged, Device, NoMemory, Listener, Spawner}
+use Rattle.share_top.specs.declared.status.Status.TheVariants.{Done, Usage, Malformed, ReadFault, WriteFault, Damaged, Device, NoMemory, Listener, Spawner, Lost, Refused, Strange}
 use Rattle.share_top.specs.Changes.{InputChange, OutputChange, bay_change}
 use Rattle.share_top.specs.Sessions.{Ending, Leaves, MayLeaveMore, Ran, IsSession, OfBay, OverBay, CountRose, Writes, WritesAll, WritesAllFront, WritesThen, WritesThenFront, WritesFront}
 use Rattle.share_top.specs.Dumping.{IsDumped, dump_text}
@@ -109,6 +109,9 @@ module _ (conf : ConfigParts) (summary : Bool) (input : InputChange) (output : O
   played Usage d = d
   played Listener d = d
   played Spawner d = d
+  played Lost d = d
+  played Refused d = d
+  played Strange d = d
   played Malformed r = refused (λ fault. WritesThen conf summary (malformed_line fault) output) r
   played ReadFault r = (
     r.0,
@@ -589,6 +592,9 @@ module _ {B D : Type 0} (bay_seen : B → BayView D) (seen : D → DiskView) whe
     not_opened Usage r = r
     not_opened Listener r = r
     not_opened Spawner r = r
+    not_opened Lost r = r
+    not_opened Refused r = r
+    not_opened Strange r = r
     not_opened Malformed r = r
     not_opened ReadFault r = r
     not_opened WriteFault r = (r.0, λ contents was t. (r.1.0, r.1.1, damaged r.1.0 r.1.1 r.1.2 contents was t, r.1.3))

@@ -25,7 +25,7 @@ use Rattle.topic_conf.specs.declared.topic.Topic.{Topic}
 use Rattle.topic_conf.specs.Topics.{IsTopic, partitions}
 use Rattle.topic_conf.proofs.Lists.{partitions_cons, all_front, all_others}
 use Rattle.share_top.specs.declared.status.Status.{Status}
-use Rattle.share_top.specs.declared.status.Status.TheVariants.{Done, Usage, Malformed, ReadFault, WriteFault, Damaged, Device, NoMemory, Listener, Spawner}
+use Rattle.share_top.specs.declared.status.Status.TheVariants.{Done, Usage, Malformed, ReadFault, WriteFault, Damaged, Device, NoMemory, Listener, Spawner, Lost, Refused, Strange}
 use Rattle.share_top.specs.Changes.{InputChange, OutputChange, bay_change}
 use Rattle.share_top.specs.Sessions.{WritesFrontOf}
 use Rattle.share_top.specs.Loading.{LoadEnding, RoomEnding, HasNoRoomIn, IsWhole, IsRefusedSegment, IsBegunSegment, WithLine, WithPlace, IsLoaded, IsNotLoaded, IsLogDisk, OverDisk, IsStored, StoresIn, StaysIn, DamagesIn, DiskCountRose, FailsWithMemory}
@@ -95,6 +95,9 @@ module _ (input : InputChange) (output : OutputChange) (E F : LoadEnding) (N M :
   weakens Usage w = w
   weakens Listener w = w
   weakens Spawner w = w
+  weakens Lost w = w
+  weakens Refused w = w
+  weakens Strange w = w
   weakens Malformed w = refused (Appends output.held output.held_after) w
   weakens ReadFault w = (
     w.0,
@@ -244,6 +247,9 @@ module _ (output : OutputChange) (name : List ℕ) (fault : OpenFault) (Damages 
   not_loaded Usage is r = r
   not_loaded Listener is r = r
   not_loaded Spawner is r = r
+  not_loaded Lost is r = r
+  not_loaded Refused is r = r
+  not_loaded Strange is r = r
   not_loaded Malformed is r = r
   not_loaded ReadFault is r = r
   not_loaded WriteFault is r = (r.0, (r.1.0, damaged r.1.0 r.1.1, r.1.2))

@@ -13,7 +13,7 @@ use Rattle.part_log.proofs.Frames.{bounds, only_by}
 use Rattle.part_log.proofs.FrameReads.{text_sound}
 use Rattle.part_log.proofs.Keeping.{logs_once}
 use Rattle.share_top.specs.declared.status.Status.{Status}
-use Rattle.share_top.specs.declared.status.Status.TheVariants.{Done, Usage, Malformed, ReadFault, WriteFault, Damaged, Device, NoMemory, Listener, Spawner}
+use Rattle.share_top.specs.declared.status.Status.TheVariants.{Done, Usage, Malformed, ReadFault, WriteFault, Damaged, Device, NoMemory, Listener, Spawner, Lost, Refused, Strange}
 use Rattle.share_top.specs.Changes.{BayChange, InputChange, OutputChange}
 use Rattle.share_top.specs.Segments.{IsSegment, IsRefused, HasNoBatch, HasOneReading, segment_of}
 use Rattle.share_top.specs.Loading.{IsLoad}
@@ -122,6 +122,12 @@ module _ {B D : Type 0} (bay : BayChange B D) (name : List ℕ) (input : InputCh
   completes Listener (inr e) read write = absurd e.2
   completes Spawner (inl e) read write = absurd e
   completes Spawner (inr e) read write = absurd e.2
+  completes Lost (inl e) read write = absurd e
+  completes Lost (inr e) read write = absurd e.2
+  completes Refused (inl e) read write = absurd e
+  completes Refused (inr e) read write = absurd e.2
+  completes Strange (inl e) read write = absurd e
+  completes Strange (inr e) read write = absurd e.2
   completes Malformed (inl e) read write =
       let over = e.ends.0 d c told has in
       let same : e.log ≡ log = logs_once c e.log log over.4.before text in

@@ -13,7 +13,7 @@ use Rattle.broker_run.specs.Server.{Serves}
 use Rattle.broker_run.specs.declared.jobs.LinksEnd.{LinksEnd}
 use Rattle.broker_run.specs.declared.jobs.LinksEnd.TheVariants as links
 use Rattle.share_top.specs.declared.status.Status.{Status}
-use Rattle.share_top.specs.declared.status.Status.TheVariants.{Done, Usage, Malformed, ReadFault, WriteFault, Damaged, Device, NoMemory, Listener, Spawner}
+use Rattle.share_top.specs.declared.status.Status.TheVariants.{Done, Usage, Malformed, ReadFault, WriteFault, Damaged, Device, NoMemory, Listener, Spawner, Lost, Refused, Strange}
 use Rattle.share_top.specs.declared.words.Words.TheVariants.{Serve}
 use Rattle.share_top.specs.declared.words.address.Address.{Address}
 use Rattle.share_top.specs.declared.words.server.ServeWords.{ServeWords}
@@ -69,6 +69,9 @@ fault_known fault output Malformed r known is = r
 fault_known fault output ReadFault r known is = r
 fault_known fault output Listener r known is = r
 fault_known fault output Spawner r known is = r
+fault_known fault output Lost r known is = r
+fault_known fault output Refused r known is = r
+fault_known fault output Strange r known is = r
 
 of_device : (fault : CoreOpen) (output : OutputChange) (status : Status) → IsRefusal fault output status → status ≡ Device
     → (fault ≡ open_fault.Device) ⊎ (fault ≡ open_fault.Bay)
@@ -139,6 +142,12 @@ module _ {B D : Type 0} (bay : BayChange B D) (output : OutputChange) (server : 
   completes no_link no_job no_output Malformed (inr d) whole = absurd d.3
   completes no_link no_job no_output ReadFault (inl d) whole = absurd d.2
   completes no_link no_job no_output ReadFault (inr d) whole = absurd d.3
+  completes no_link no_job no_output Lost (inl d) whole = absurd d.2
+  completes no_link no_job no_output Lost (inr d) whole = absurd d.3
+  completes no_link no_job no_output Refused (inl d) whole = absurd d.2
+  completes no_link no_job no_output Refused (inr d) whole = absurd d.3
+  completes no_link no_job no_output Strange (inl d) whole = absurd d.2
+  completes no_link no_job no_output Strange (inr d) whole = absurd d.3
 
   pub serves_links : (status : Status) → IsServe bay output server serve status → (HoldsStates bay serve.conf → status ≢ Damaged)
       → (IsSound bay.seen bay.disk_seen bay.old → status ≢ Device) → LeavesOthers bay (IsTaken serve.conf) → ServesLinks bay output server serve status

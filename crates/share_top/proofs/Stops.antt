@@ -20,7 +20,7 @@ use Rattle.broker_core.specs.Cores.{CoreParts}
 use Rattle.share_top.specs.declared.replay.Stopped.{Stopped}
 use Rattle.share_top.specs.declared.replay.Stopped.TheVariants as stopped
 use Rattle.share_top.specs.declared.status.Status.{Status}
-use Rattle.share_top.specs.declared.status.Status.TheVariants.{Done, Usage, Malformed, ReadFault, WriteFault, Damaged, Device, NoMemory, Listener, Spawner}
+use Rattle.share_top.specs.declared.status.Status.TheVariants.{Done, Usage, Malformed, ReadFault, WriteFault, Damaged, Device, NoMemory, Listener, Spawner, Lost, Refused, Strange}
 use Rattle.share_top.specs.Changes.{InputChange, OutputChange}
 use Rattle.share_top.specs.Sessions.{Ending, Leaves, MayLeaveMore, Writes, WritesAll, WritesAllFront, WritesFront, WritesFrontOf, WritesThen, WritesThenFront}
 use Rattle.share_top.specs.Statuses.{ComesNext, IsCut, IsDone, IsPlayed, IsRefusedScript}
@@ -216,6 +216,9 @@ module _ {D : Type 0} (seen : D → DiskView) (core : CoreParts D) (left : LeftD
     of_refusal fault Usage r never bay rises b = absurd r
     of_refusal fault Listener r never bay rises b = absurd r
     of_refusal fault Spawner r never bay rises b = absurd r
+    of_refusal fault Lost r never bay rises b = absurd r
+    of_refusal fault Refused r never bay rises b = absurd r
+    of_refusal fault Strange r never bay rises b = absurd r
     of_refusal fault Malformed r never bay rises b = absurd r
     of_refusal fault ReadFault r never bay rises b = absurd r
 

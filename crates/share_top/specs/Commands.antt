@@ -4,8 +4,9 @@
 use Rattle.std.specs.Prelude.{◌≡◌, ◌⊎◌}
 use Rattle.share_top.specs.declared.status.Status.{Status}
 use Rattle.share_top.specs.declared.words.Words.{Words}
-use Rattle.share_top.specs.declared.words.Words.TheVariants.{Replay, Load, DumpState, Gen, Serve}
+use Rattle.share_top.specs.declared.words.Words.TheVariants.{Replay, Load, DumpState, Gen, Serve, Consume}
 use Rattle.share_top.specs.Changes.{Call}
+use Rattle.share_top.specs.Consumers.{ConsumesRecords}
 use Rattle.share_top.specs.Dumping.{DumpsState}
 use Rattle.share_top.specs.Generating.{Generates}
 use Rattle.share_top.specs.Loading.{LoadsSegment}
@@ -15,7 +16,7 @@ use Rattle.share_top.specs.Statuses.{status_number}
 use Rattle.share_top.specs.Words.{AreOfCommand, HasNoCommand}
 
 -- What a command does, and with which status it ends. Only a replay and a load read the input, and
--- `gen` takes no disk.
+-- `gen` and a consumer take no disk.
 abbrev pub DoesWords : {B D : Type 0} → Call B D → Words → Status → Type 0
 DoesWords call (Replay conf summary) status =
     ReplaysScript call.bay call.input call.output conf summary status
@@ -27,6 +28,9 @@ DoesWords call (Gen n) status =
     call.input.Same × (call.bay.new ≡ call.bay.old) × Generates call.output n status
 DoesWords call (Serve listen serve) status =
     call.input.Same × ServesLinks call.bay call.output call.server serve status
+DoesWords call (Consume connect conf) status =
+    call.input.Same × (call.bay.new ≡ call.bay.old)
+    × ConsumesRecords call.output call.server.listener call.server.spawner conf status
 
 -- The words are no command, or no memory was found for them. Nothing that was handed over was
 -- touched.

@@ -24,6 +24,12 @@ pub enum Status {
     Listener = 9,
     /// A job was refused: no thread could be started for it.
     Spawner = 10,
+    /// The broker gave no link, or a link was lost before the last acknowledgement was answered.
+    Lost = 11,
+    /// A reply of the broker has an error code, which is told.
+    Refused = 12,
+    /// A reply of the broker can't be, and the place is told.
+    Strange = 13,
 }
 
 impl Status {

@@ -32,6 +32,15 @@ const LISTENER: u8 = 9;
 /// The status where no thread could be started.
 const SPAWNER: u8 = 10;
 
+/// The status where a share consumer has no link, or lost one before its last acknowledgement was answered.
+const LOST: u8 = 11;
+
+/// The status where a broker's reply has an error code.
+const REFUSED: u8 = 12;
+
+/// The status where a broker's reply can't be.
+const STRANGE: u8 = 13;
+
 /// What that status means of a script.
 pub const NO_SCRIPT: &str =
     "the input is no script; the last line of the output names its first fault";
@@ -161,6 +170,18 @@ pub fn tell_status(rt: &HostRuntime, status: u8, malformed: &str, faults: Faults
         NO_MEMORY => tell(rt, "out of memory"),
         LISTENER => tell_listener(rt, faults.listener),
         SPAWNER => tell_spawner(rt, faults.spawner),
+        LOST => tell(
+            rt,
+            "the broker went away before it answered the last acknowledgement; what was written may be delivered again",
+        ),
+        REFUSED => tell(
+            rt,
+            "the broker refused; the last line of the output has the error code of its reply",
+        ),
+        STRANGE => tell(
+            rt,
+            "a reply of the broker can't be; the last line of the output names the place in it",
+        ),
         _ => {}
     }
     status

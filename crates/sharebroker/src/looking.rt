@@ -10,7 +10,7 @@ use edge_real::{
     FolderBay, Folders, LookFolders, ReaderSource, SystemFolders, WriterSink, keep_behind,
     lacks_bytes, seen_behind,
 };
-use share_top::{ServeWords, Words, run_alone, serve_words};
+use share_top::{ServeWords, Words, consume_words, run_alone, serve_words};
 use std::alloc::AllocError;
 use std::io::{Read, Write};
 use topic_conf::Config;
@@ -178,6 +178,20 @@ fn tell_missing(rt: &HostRuntime, folder: &str, conf: &Config) -> Result<(), All
     Ok(())
 }
 
+// Writes the line of a damaged disk, tells what is to be told of the status, and gives it.
+fn tell_damaged<R: Read, W: Write>(
+    rt: &HostRuntime,
+    line: &[u8],
+    input: &ReaderSource<R>,
+    output: &mut WriterSink<W>,
+) -> u8 {
+    let status = match write_all(output, line) {
+        Ok(()) => DAMAGED,
+        Err(_) => WRITE_FAULT,
+    };
+    tell_status(rt, status, NO_SEGMENT, Faults::of(input, output, None))
+}
+
 // What a look at a folder comes to: the status with which the program ends, if it is to end.
 fn looked<R: Read, W: Write>(
     rt: &HostRuntime,
@@ -191,6 +205,9 @@ fn looked<R: Read, W: Write>(
     let Ok(None) = serve_words(rt.alloc(), &dump) else {
         return Ok(None);
     };
+    let Ok(None) = consume_words(rt.alloc(), &dump) else {
+        return Ok(None);
+    };
     // The first write alone is taken, which is the line of a damaged disk where there is one.
     let mut failing = Vec::new(rt.alloc());
     failing.push(1)?;
@@ -201,11 +218,7 @@ fn looked<R: Read, W: Write>(
     let names = disks_of(rt, conf)?;
     match status {
         DAMAGED => {
-            let status = match write_all(output, front.bytes()) {
-                Ok(()) => DAMAGED,
-                Err(_) => WRITE_FAULT,
-            };
-            let status = tell_status(rt, status, NO_SEGMENT, Faults::of(input, output, None));
+            let status = tell_damaged(rt, front.bytes(), input, output);
             tell_rests(rt, folder, &names, &bay)?;
             tell_ids(rt, folder, conf)?;
             Ok(Some(status))

@@ -2,11 +2,11 @@
 #![tactic(auto)]
 
 ghost use Rattle.std.specs.Prelude.{◌≡◌, List, ℕ, false};
-ghost use Rattle.edge_mem.specs.Bays.{out_at};
 ghost use Rattle.edge_real.specs.Folders.{out_at as out_of_folder};
-ghost use Rattle.share_top.specs.Words.{AreOfServe};
+ghost use Rattle.share_top.specs.Words.{AreOfConsume, AreOfServe};
 
 mod asked;
+mod consumer;
 mod ending;
 mod files;
 mod looking;
@@ -16,16 +16,20 @@ mod usage;
 mod wrong;
 
 use asked::answer;
+use consumer::{consume_over_tcp, memory_bay};
 use edge_io::write_all;
-use edge_mem::MemBay;
 use edge_real::{FolderBay, ReaderSource, SystemFolders, WriterSink};
 use ending::{Faults, NO_MEMORY, NO_SCRIPT, NO_SEGMENT, USAGE, WRITE_FAULT, tell_status};
 use looking::look;
 use server::serve_over_tcp;
-use share_top::{BayChoice, bay_choice, run_alone, serve_words};
+use share_top::{BayChoice, bay_choice, consume_words, run_alone, serve_words};
 use std::env;
 use std::io::{ErrorKind, Read, Result, Write};
+use std::net::{Net, TcpListener, TcpStream};
 use std::process::ExitCode;
+use std::sync::Wait;
+use std::thread::Threads;
+use std::time::Clock;
 
 // The words behind the program's name.
 fn words(rt: &HostRuntime) -> Result<Vec<String>> {
@@ -45,13 +49,6 @@ fn folder_word(words: &[String]) -> Option<&String> {
     }
 }
 
-// A fresh bay. No disk of it is out.
-fn memory_bay(rt: &HostRuntime) -> MemBay
-    ensures { (name : List ℕ) → out_at result name ≡ false }
-{
-    MemBay::new(rt.alloc(), Vec::new(rt.alloc()))
-}
-
 // The disks of a folder. None is out.
 fn folder_bay(rt: &HostRuntime, folder: String) -> FolderBay<SystemFolders<'_, HostRuntime>>
     ensures { (name : List ℕ) → out_of_folder result name ≡ false }
@@ -59,14 +56,16 @@ fn folder_bay(rt: &HostRuntime, folder: String) -> FolderBay<SystemFolders<'_, H
     FolderBay::over(rt.alloc(), SystemFolders { rt }, folder)
 }
 
-// Does what the words say, which are none of a server, tells what is to be told of the status, and gives it.
+// Does what the words say, which are none of a server or of a share consumer, tells what is to be told of the status,
+// and gives it.
 fn perform<R: Read, W: Write>(
     rt: &HostRuntime,
     words: &[String],
     input: &mut ReaderSource<R>,
     output: &mut WriterSink<W>,
 ) -> u8
-    requires { AreOfServe words.now → ⊥ }
+    requires unserved { AreOfServe words.now → ⊥ }
+    requires unlinked { AreOfConsume words.now → ⊥ }
 {
     let Some(folder) = folder_word(words) else {
         let mut bay = memory_bay(rt);
@@ -88,6 +87,36 @@ fn perform<R: Read, W: Write>(
         NO_SEGMENT,
         Faults::of(input, output, bay.last_fault()).with_words(words),
     )
+}
+
+// The same of words that may be those of a share consumer.
+fn perform_or_consume<
+    H: Net<Listener = TcpListener, Stream = TcpStream>
+        + Threads
+        + Wait
+        + Clock
+        + Clone
+        + Copy
+        + Drop
+        + Send
+        + Sync
+        + 'static,
+    R: Read,
+    W: Write,
+>(
+    handle: &H,
+    rt: &HostRuntime,
+    words: &[String],
+    input: &mut ReaderSource<R>,
+    output: &mut WriterSink<W>,
+) -> u8
+    requires { AreOfServe words.now → ⊥ }
+{
+    match consume_words(rt.alloc(), words) {
+        Ok(None) => perform(rt, words, input, output),
+        Ok(Some((connect, _))) => consume_over_tcp(handle, rt, words, &connect, input, output),
+        Err(_) => tell_status(rt, NO_MEMORY, NO_SCRIPT, Faults::of(input, output, None)),
+    }
 }
 
 // Tells a text on standard output, and gives the status.
@@ -122,7 +151,7 @@ fn main(rt: HostRuntime) -> ExitCode {
         return ExitCode::from(told(&rt, text.as_str(), &input, &mut output));
     }
     let status = match serve_words(rt.alloc(), &words) {
-        Ok(None) => perform(&rt, &words, &mut input, &mut output),
+        Ok(None) => perform_or_consume(&rt, &rt, &words, &mut input, &mut output),
         Ok(Some((listen, served))) => {
             let folder = match folder_word(&words) {
                 Some(folder) => folder.as_str(),

@@ -140,8 +140,43 @@ const TOPICS: Word = Word {
     help: "A topic, as NAME:N:ID: its name, its number of partitions, and its id, a UUID",
 };
 
+const CONNECT: Word = Word {
+    option: Some("connect"),
+    value: "HOST:PORT",
+    given: Given::Required,
+    help: "The address of a broker that serves share groups",
+};
+
+const GROUP: Word = Word {
+    option: Some("group"),
+    value: "GROUP",
+    given: Given::Required,
+    help: "The share group, 1 to 255 bytes",
+};
+
+const MEMBER: Word = Word {
+    option: Some("member"),
+    value: "MEMBER",
+    given: Given::Required,
+    help: "The id of this member, 1 to 255 bytes; no other member of the group has it",
+};
+
+const OF_TOPIC: Word = Word {
+    option: Some("topic"),
+    value: "NAME",
+    given: Given::Required,
+    help: "The name of the topic whose records are taken",
+};
+
+const COUNT: Word = Word {
+    option: Some("count"),
+    value: "N",
+    given: Given::Required,
+    help: "How many records are taken before it ends, 1 to 4294967295",
+};
+
 // The commands, in the order in which they are shown.
-const COMMANDS: [Usage; 5] = [
+const COMMANDS: [Usage; 6] = [
     Usage {
         name: "serve",
         line: "sharebroker serve",
@@ -152,6 +187,14 @@ const COMMANDS: [Usage; 5] = [
             FOLDER, LISTEN, ADVERTISE, RESET, LOCK_MS, LIMIT, WORKERS, ACCEPT, VERSIONS, IDLE_MS,
             TOPICS,
         ],
+    },
+    Usage {
+        name: "consume",
+        line: "sharebroker consume",
+        about: "Takes records of a topic as a member of a share group, writes a line for each, and accepts it then",
+        example: "Example:
+  sharebroker consume --connect 127.0.0.1:9092 --group workers --member w1 --topic jobs --count 3",
+        words: &[CONNECT, GROUP, MEMBER, OF_TOPIC, COUNT],
     },
     Usage {
         name: "replay",
@@ -261,7 +304,7 @@ pub fn usage_text(alloc: Global, name: &str) -> Result<String, AllocError> {
             add(alloc, &mut text, usage)?;
         }
     }
-    if name != "gen" {
+    if name != "gen" && name != "consume" {
         text.push_str(ABOUT_TOPICS)?;
     }
     Ok(text)

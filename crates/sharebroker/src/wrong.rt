@@ -11,6 +11,8 @@ enum Takes {
     Number { least: u64, most: u64 },
     One(&'static [&'static str]),
     Address,
+    Topic,
+    Name,
     Text,
 }
 
@@ -21,7 +23,7 @@ fn takes_of(option: &str) -> Takes {
             least: 1,
             most: 256,
         },
-        "accept" => Takes::Number {
+        "accept" | "count" => Takes::Number {
             least: 1,
             most: 4294967295,
         },
@@ -37,7 +39,9 @@ fn takes_of(option: &str) -> Takes {
         "reset" => Takes::One(&["latest", "earliest"]),
         "output" => Takes::One(&["lines", "summary"]),
         "versions" => Takes::One(&["exact", "wide", "all"]),
-        "listen" | "advertise" => Takes::Address,
+        "listen" | "advertise" | "connect" => Takes::Address,
+        "topic" => Takes::Topic,
+        "group" | "member" => Takes::Name,
         _ => Takes::Text,
     }
 }
@@ -83,6 +87,12 @@ fn wrong_value(alloc: Global, option: &str, value: &str) -> Result<Option<String
             format!(in alloc;
                 "--{option} takes HOST:PORT, a name or an IPv4 address and a port, not {value}"
             )?
+        }
+        Takes::Topic if !is_topic_name(value.as_bytes()) => {
+            format!(in alloc; "{value} is no name of a topic")?
+        }
+        Takes::Name if value.is_empty() || value.len() > 255 => {
+            format!(in alloc; "--{option} takes 1 to 255 bytes")?
         }
         Takes::Text if value.is_empty() => format!(in alloc;
             "--{option} takes a word that isn't empty"
@@ -188,6 +198,10 @@ fn wrong_rounds(alloc: Global, words: &[String]) -> Result<Option<String>, Alloc
 fn wrong_rest(alloc: Global, command: &str, rest: &[String]) -> Result<Option<String>, AllocError> {
     match command {
         "gen" => wrong_rounds(alloc, rest),
+        "consume" => match rest.first() {
+            Some(word) => Ok(Some(format!(in alloc; "consume takes options alone, not {word}")?)),
+            None => Ok(None),
+        },
         "load" => match rest.split_at_checked(2) {
             Some((_, topics)) => wrong_topics(alloc, topics),
             None => Ok(Some(format!(in alloc;
@@ -232,6 +246,11 @@ fn lacks_advertise(words: &[String]) -> bool {
     listens && !words.iter().any(|word| word.as_str() == "--advertise")
 }
 
+// The options that have to be given where a command has them.
+const NEEDED: [&str; 7] = [
+    "dir", "listen", "connect", "group", "member", "topic", "count",
+];
+
 // What is wrong of a command's words, if anything is.
 fn wrong_of(alloc: Global, command: &str, words: &[String]) -> Result<Option<String>, AllocError> {
     let options = options_of(alloc, command)?;
@@ -243,7 +262,7 @@ fn wrong_of(alloc: Global, command: &str, words: &[String]) -> Result<Option<Str
             Err(text) => return Ok(Some(text)),
         }
     }
-    for needed in ["dir", "listen"] {
+    for needed in NEEDED {
         let word = format!(in alloc; "--{needed}")?;
         if options.iter().any(|&known| known == needed)
             && !words.iter().any(|given| given.as_str() == word.as_str())
