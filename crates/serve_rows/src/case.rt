@@ -1,5 +1,6 @@
 // The cases of a file.
 use crate::board::Board;
+use crate::consuming::{beside, consumed};
 use crate::locks::locks_told;
 use crate::peer::{Peer, parted};
 use crate::serving::{gated, links_status, numbered, woken};
@@ -26,6 +27,8 @@ pub struct Tally {
 pub struct Case {
     pub board: Arc<Board, Global>,
     pub words: Vec<String>,
+    /// The words of a consumer beside a server.
+    pub consumer: Vec<String>,
     pub step: u64,
     pub holds: bool,
     pub refused: Option<u64>,
@@ -49,6 +52,7 @@ impl Case {
         Ok(Case {
             board: Board::new(rt)?,
             words,
+            consumer: Vec::new(alloc),
             step: 0,
             holds: false,
             refused: None,
@@ -61,6 +65,23 @@ impl Case {
     /// The case behind this one, of the same words.
     fn next(self, rt: HostRuntime, name: &str) -> io::Result<Case> {
         Case::new(rt, self.words, name)
+    }
+
+    /// A case of the same words, of a server beside a consumer.
+    pub fn aside(&self, rt: HostRuntime) -> io::Result<Case> {
+        let mut words = Vec::new(rt.alloc());
+        for word in &self.words {
+            words.push(word.clone()?)?;
+        }
+        Case::new(rt, words, self.name.as_str())
+    }
+
+    /// How many peers take all their lines. A consumer reads nothing of a link that it doesn't need.
+    fn players(&self, kind: &str) -> u64 {
+        if kind == "consumed" {
+            return self.peers.iter().filter(|peer| peer.has_lines()).count() as u64;
+        }
+        self.peers.len() as u64
     }
 
     /// The peers, and the calls for a link that fail.
@@ -88,6 +109,7 @@ impl Case {
         match kind {
             "" | "#" => {}
             "words" => self.words = words_of(self.board.alloc(), text)?,
+            "consumer" => self.consumer = words_of(self.board.alloc(), text)?,
             "step" => self.step = text.parse().unwrap_or(0),
             "link" => self.peers.push_back(Peer::new(&self.board)?)?,
             "hold-write" => self.holds = true,
@@ -119,6 +141,8 @@ fn outcome<
         "numbered" => numbered(handle, rt, case)?,
         "expiries" => turns(handle, rt, case)?,
         "socket" => socket_status(handle, rt, case)?,
+        "consumed" => consumed(handle, rt, case)?,
+        "beside" => beside(handle, rt, case)?,
         _ => return locks_told(handle, rt.alloc(), kind),
     };
     Ok(Some(told))
@@ -164,7 +188,7 @@ pub fn run_file<
             case = case.next(rt, text)?;
             continue;
         }
-        let peers = case.peers.len() as u64;
+        let peers = case.players(kind);
         match outcome(handle, rt, &mut case, kind)? {
             Some(told) => {
                 let why = compared(rt.alloc(), told.as_str(), text)?;

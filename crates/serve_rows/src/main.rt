@@ -1,6 +1,6 @@
 //! Worked examples of a server as several threads run it: links whose peers wait for each other, jobs that are
-//! refused, a listener that fails, locks that expire, and partitions that are written beside each other. And of the
-//! locks under which threads act.
+//! refused, a listener that fails, locks that expire, and partitions that are written beside each other. Of a share
+//! consumer, whose links have peers that play the broker. And of the locks under which threads act.
 //!
 //! A case is these lines, and the last one of it says what has to come of them. Those on a peer are about the link
 //! that was begun last: it takes its lines in order as its link is read, and closes behind the last one.
@@ -11,6 +11,7 @@
 //! | `step MS` | by how much each clock goes on at each answer, 0 by default; a pause lasts a millisecond |
 //! | `link` | one link more |
 //! | `send HEX ..` | the peer sends these bytes |
+//! | `last HEX ..` | it sends these, and no more is read behind them |
 //! | `gets HEX ..` | it has been sent these and no others since |
 //! | `again HEX ..` | it sends these bytes, |
 //! | `until HEX ..` | .. and again until it is sent these, at most 20000 times |
@@ -26,6 +27,11 @@
 //! | `numbered served N` | the links are served, and a gate hears the numbers of links that have one reply each: they go up from 0 to below N |
 //! | `expiries N ..` | no threads: each link is served to its end, and behind each is a turn of expiries with so many faults |
 //! | `socket N` | the peer of the one link is a client of a TCP socket, which sends and gets; the server ends with the status N |
+//! | `consumer W ..` | the words of a consumer beside a server |
+//! | `consumed N LINES` | the words are those of a consumer: it ends with the status N, and has written these lines, each with a `;` |
+//! | | behind it. The peers play the broker; one with no lines isn't needed |
+//! | `beside N LINES` | the server runs over a TCP socket; the one peer is a client of it, and behind that a consumer over sockets |
+//! | | ends with the status N and these lines, and the server with 0 |
 //! | `shard-lock N ..`, `turn-lock N ..` | no server: two threads act 1,000 times each under such a lock, and it gives back so many acts |
 //! | `slow-shard-lock N ..`, `slow-turn-lock N ..` | the same with 20 acts each, which last longer than a thread spins for its turn |
 //! | `closed-shard-lock N ..`, `closed-turn-lock N ..` | such a lock of one pass, which is closed with no act, gives back what it was made with |
@@ -36,6 +42,7 @@
 
 mod board;
 mod case;
+mod consuming;
 mod disks;
 mod edges;
 mod locks;

@@ -55,6 +55,11 @@ impl Peer {
         Ok(self.lines.push_back(line)?)
     }
 
+    /// Whether it has lines to take.
+    pub fn has_lines(&self) -> bool {
+        !self.lines.is_empty()
+    }
+
     /// The lines, in order.
     pub fn into_lines(self) -> VecDeque<String> {
         self.lines
@@ -98,6 +103,10 @@ impl Peer {
         let (kind, text) = parted(line);
         match kind {
             "send" => return self.send(text),
+            "last" => {
+                self.board.finish();
+                return self.send(text);
+            }
             "gets" => return self.gets(text),
             "again" => self.asked = String::from_str(self.board.alloc(), text)?,
             "until" => return self.seek(text),

@@ -26,7 +26,7 @@ pub fn link_of(peer: Peer) -> Link {
 }
 
 /// A listener of the links of a case.
-fn listener_of(alloc: Global, case: &mut Case) -> io::Result<MemListener<Link>> {
+pub fn listener_of(alloc: Global, case: &mut Case) -> io::Result<MemListener<Link>> {
     let (peers, failing) = case.take_links();
     let mut links = VecDeque::new(alloc);
     for peer in peers {

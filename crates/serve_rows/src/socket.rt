@@ -16,12 +16,12 @@ use std::thread::Threads;
 use std::time::Clock;
 
 /// The signal that has the port.
-const PORT: usize = 7;
+pub const PORT: usize = 7;
 
 /// Tells the port of the socket that listens.
 #[derive(Drop)]
-struct Ports {
-    board: Option<Arc<Board, Global>>,
+pub struct Ports {
+    pub board: Option<Arc<Board, Global>>,
 }
 
 impl SocketNotices for Ports {
@@ -73,7 +73,7 @@ fn take<S: Read + Write>(board: &Board, stream: &mut S, line: &str) -> io::Resul
 }
 
 /// Connects to the socket that listens, and takes the lines of a client.
-fn client<H: Net<Stream = TcpStream>>(
+pub fn client<H: Net<Stream = TcpStream>>(
     handle: &H,
     board: &Board,
     lines: VecDeque<String>,
@@ -88,7 +88,7 @@ fn client<H: Net<Stream = TcpStream>>(
 }
 
 /// The lines of the one peer.
-fn lines_of(alloc: Global, case: &mut Case) -> VecDeque<String> {
+pub fn lines_of(alloc: Global, case: &mut Case) -> VecDeque<String> {
     let (mut peers, _) = case.take_links();
     match peers.pop_front() {
         Some(peer) => peer.into_lines(),
