@@ -19,17 +19,19 @@ use Rattle.broker_model.specs.Hosted.{ChangesAt, HoldsAt, Hosted, IsOneOf, disks
 use Rattle.broker_model.specs.Shards.{HostedPart, Shards}
 use Rattle.broker_model.specs.Disks.{Facts, facts_of, with_arm}
 use Rattle.broker_model.proofs.Lists.{change_of, changes_so}
-use Rattle.broker_core.specs.declared.slot.ForeignSlot.{ForeignSlot}
-use Rattle.broker_core.specs.declared.slot.PartState.{PartState}
-use Rattle.broker_core.specs.declared.slot.PartSlot.{PartSlot}
-use Rattle.broker_core.specs.Carried.{GoesOn, IsCarried, IsFed, IsPartCarried, OpenPart, PartGoesOn}
+use Rattle.broker_hosts.specs.declared.slot.ForeignSlot.{ForeignSlot}
+use Rattle.broker_hosts.specs.declared.slot.PartState.{PartState}
+use Rattle.broker_hosts.specs.declared.slot.PartSlot.{PartSlot}
+use Rattle.broker_hosts.specs.Carried.{GoesOn, IsCarried, IsFed, IsPartCarried, OpenPart}
+use Rattle.broker_core.specs.PartCalls.{PartGoesOn}
 use Rattle.broker_shards.specs.Hosts.{holding}
 use Rattle.broker_core.specs.Foreign.{ArmsForeign, ArmsEither}
-use Rattle.broker_core.specs.Hosts.{AreApart, AreCarried, AreDistinct, AreNamed, AreOpen, AreOpenParts, ArmsPlace, ArmsSlot, BothGoOn, DiskGoesOn, HostsParts, IsOpen, IsPartSlot, IsPartState, IsSlot, NotIn, StaysOpen, among, disks_in, ends_in, facts_at, facts_in, foreign_disks, foreign_end, foreign_facts, hosted_slot, hosted_slots, open_disk, part_disk, part_end, slot_disks, slot_ends, slots_disks}
+use Rattle.broker_hosts.specs.Hosts.{AreApart, AreCarried, AreDistinct, AreNamed, AreOpen, AreOpenParts, HostsParts, IsOpen, IsPartSlot, IsPartState, IsSlot, NotIn, among, disks_in, ends_in, facts_at, facts_in, foreign_disks, foreign_end, foreign_facts, hosted_slot, hosted_slots, open_disk, part_disk, part_end, slot_disks, slot_ends, slots_disks}
+use Rattle.broker_core.specs.Calls.{ArmsPlace, ArmsSlot, BothGoOn, DiskGoesOn, StaysOpen}
 use Rattle.broker_core.specs.Cores.{IsArmed}
 use Rattle.broker_core.proofs.Calling.{Turned, with_parts}
 use Rattle.broker_core.proofs.Flats.{among_changed}
-use Rattle.broker_core.proofs.Places.{Changed, changed, changes_not, changes_same, zip_same, among_past, among_zip, differs, holds_both, is_same, not_both, one_in_either, same_self}
+use Rattle.broker_hosts.proofs.Places.{Changed, changed, changes_not, changes_same, zip_same, among_past, among_zip, differs, holds_both, is_same, not_both, one_in_either, same_self}
 use Rattle.broker_core.proofs.Leading.{least_on, not_a_part, not_a_part_too, parts_apart, same_goes}
 use Rattle.broker_core.proofs.Slots.{disk_names, known_at, three}
 use Rattle.edge_io.specs.Views.{DiskView}

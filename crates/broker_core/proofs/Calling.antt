@@ -11,18 +11,20 @@ use Rattle.broker_model.specs.Shards.{Counts, HostedPart, PartCall, Shards, Shar
 use Rattle.broker_model.specs.Shards.ShardCall.{CallPart}
 use Rattle.broker_model.specs.Disks.{Facts, OnCalled}
 use Rattle.broker_model.proofs.Lists.{change_of, changes_so}
-use Rattle.broker_core.specs.declared.slot.PartState.{PartState}
-use Rattle.broker_core.specs.declared.slot.PartSlot.{PartSlot}
+use Rattle.broker_hosts.specs.declared.slot.PartState.{PartState}
+use Rattle.broker_hosts.specs.declared.slot.PartSlot.{PartSlot}
 use Rattle.broker_model.specs.Acting.{EndsGoOn, StepsOn}
 use Rattle.edge_io.specs.Disk.{IsTold}
 use Rattle.broker_shards.specs.declared.part.PartAsk.{PartAsk}
 use Rattle.broker_shards.specs.declared.part.PartTold.{PartTold}
-use Rattle.broker_core.specs.Carried.{GoesOn, IsCall, IsPartCarried, OpenPart, PartGoesOn, Uses}
-use Rattle.broker_core.specs.Hosts.{AreApart, AreCarried, AreDistinct, AreOpen, DidPart, DiskGoesOn, GoesOnIf, Halts, HaltsSlot, HostsParts, IsOpenState, IsPartSlot, IsPartState, Leads, LeadsSlot, LogsLater, StaysOpen, among, counts_in, disks_in, ends_in, ends_over, facts_at, facts_in, foreign_disks, foreign_end, foreign_facts, hosted_slot, hosted_slots, open_disk, part_disk, slot_disks, slot_ends}
+use Rattle.broker_hosts.specs.Carried.{GoesOn, IsPartCarried, OpenPart}
+use Rattle.broker_core.specs.PartCalls.{IsCall, PartGoesOn, Uses}
+use Rattle.broker_hosts.specs.Hosts.{AreApart, AreCarried, AreDistinct, AreOpen, HostsParts, IsOpenState, IsPartSlot, IsPartState, among, disks_in, ends_in, facts_at, facts_in, foreign_disks, foreign_end, foreign_facts, hosted_slot, hosted_slots, open_disk, part_disk, slot_disks, slot_ends}
+use Rattle.broker_core.specs.Calls.{DidPart, DiskGoesOn, GoesOnIf, Halts, HaltsSlot, Leads, LeadsSlot, LogsLater, StaysOpen, counts_in, ends_over}
 use Rattle.broker_core.proofs.Flats.{among_changed, zip_flat}
 use Rattle.broker_core.proofs.Leading.{StillSlot, halts_still, open_still, parts_apart, parts_still, same_both, same_goes, slot_still, stays_same, still_foreign}
 use Rattle.broker_core.proofs.Reaching.{SlotLater, SlotReaches, names_later, names_reach, open_reaches, same_later, slot_later, slot_reaches, slots_reach}
-use Rattle.broker_core.proofs.Places.{Changed, changed, changes_all, changes_either, changes_not, changes_same, changes_zip, zip_same, zip_weaker}
+use Rattle.broker_hosts.proofs.Places.{Changed, changed, changes_all, changes_either, changes_not, changes_same, changes_zip, zip_same, zip_weaker}
 use Rattle.broker_core.proofs.Slots.{AreOf, Turns, are_of, called_same, slot_end_stays, slot_used, step_named}
 use Rattle.edge_io.specs.Views.{DiskView}
 

@@ -17,7 +17,7 @@ use Rattle.broker_model.specs.Shards.{Counts, Ends, Shards, ShardCall}
 use Rattle.broker_model.specs.Shards.ShardCall.{CallPart}
 use Rattle.broker_model.specs.Shards.PartCall.{Expires}
 use Rattle.broker_model.specs.Steps.{Does, DoesTurn, ExpiresAt, replies_to}
-use Rattle.broker_core.specs.Hosts.{Did, ExpiresShard, IsThere, faults_in}
+use Rattle.broker_core.specs.Calls.{Did, ExpiresShard, IsThere, faults_in}
 use Rattle.broker_core.proofs.Flats.{all_append}
 use Rattle.broker_core.proofs.Telling.{all_told, faults_are, part_told}
 

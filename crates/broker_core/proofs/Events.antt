@@ -1,8 +1,7 @@
 -- What each event makes of the machine.
-use Rattle.std.proofs.Common.{◌≡◌, ◌≤◌, ◌-◌, ◌⊎◌, ◌∷◌, [], inl, inr, refl, sym, ap, ◌∙◌, subst, arith, ◌+◌, ℕ, zero, suc, List, length, Bool, true, false, cond, Some, None, Result, Err, IfErr}
+use Rattle.std.proofs.Common.{◌≡◌, ◌≤◌, ◌-◌, ◌⊎◌, ◌∷◌, [], inl, inr, refl, sym, ap, ◌∙◌, subst, arith, ℕ, List, Bool, true, false, cond, Some, None, Result, Err, IfErr}
 use Rattle.std.specs.List.{AllByRecursion, AllZip}
 use Rattle.std.specs.Prelude.{All}
-use Rattle.std.proofs.Common.{length-append}
 use Rattle.std.specs.declared.option.Option.{Option}
 use Rattle.edge_io.specs.declared.fault.FaultMode.{FaultMode}
 use Rattle.session_script.specs.declared.event.Event.{Event}
@@ -11,12 +10,11 @@ use Rattle.session_script.specs.declared.event.Outcome.{Outcome}
 use Rattle.session_script.specs.declared.event.Outcome.TheVariants.{Restarted}
 use Rattle.topic_conf.specs.declared.topic.Topic.{Topic}
 use Rattle.topic_conf.specs.Configs.{ConfigParts}
-use Rattle.topic_conf.specs.Topics.{partitions, shard_named}
-use Rattle.topic_conf.proofs.Lists.{partitions_cons}
+use Rattle.topic_conf.specs.Topics.{shard_named}
 use Rattle.session_script.specs.Output.{IsTold}
 use Rattle.conn_core.specs.Conns.{ConnParts, conn_after_bytes}
 use Rattle.share_members.specs.Groups.{Memberships}
-use Rattle.broker_model.specs.Hosted.{Hosted, IsOneOf, IsTaken, hosted_from, hosted_in, hosted_of, part_disks, same_name, state_a, state_b}
+use Rattle.broker_model.specs.Hosted.{Hosted, IsOneOf, IsTaken, hosted_of, part_disks, same_name, state_a, state_b}
 use Rattle.broker_model.specs.Shards.{Counts, HostedPart, Shards, ShardCall, StepsShards, calls, hosted_by}
 use Rattle.broker_model.specs.Shards.ShardCall.{CallMembers}
 use Rattle.broker_model.specs.Shards.MembersCall.{Ticks}
@@ -26,14 +24,15 @@ use Rattle.broker_model.specs.Steps.{StepsTo, Serves, DoesNothing, ExpiresAt}
 use Rattle.broker_model.specs.States.{State}
 use Rattle.broker_core.specs.declared.fault.CoreFault.{CoreFault}
 use Rattle.broker_core.specs.declared.fault.CoreFault.TheVariants.{NoMemory}
-use Rattle.broker_core.specs.declared.slot.ForeignSlot.{ForeignSlot}
-use Rattle.broker_core.specs.declared.slot.ForeignSlot.TheVariants as foreign
-use Rattle.broker_core.specs.declared.slot.PartState.{PartState}
-use Rattle.broker_core.specs.declared.slot.PartState.TheVariants as part
-use Rattle.broker_core.specs.declared.slot.PartSlot.{PartSlot}
-use Rattle.broker_core.specs.Hosts.{AreCarried, AreDistinct, AreHeld, AreHeldParts, AreNamed, AreOpen, AreOpenParts, BothGoOn, DiskGoesOn, GoesOnIf, GoOn, Halts, HostsParts, IsHeld, IsHeldState, IsOpen, IsOpenState, IsPartSlot, Leads, LeftDisks, LogsReach, StandStill, StaysHosted, all_names, counts_in, disks_in, ends_in, ends_over, facts_at, facts_in, foreign_facts, hosted_slots}
-use Rattle.broker_core.specs.Cores.{AreReopened, CoreParts, HasMoment, IsArmed, IsCore, IsWhole, StopsIn, Advances, state_of}
-use Rattle.broker_core.proofs.Places.{among_zip, zip_weaker, one_in_front, one_in_rest}
+use Rattle.broker_hosts.specs.declared.slot.ForeignSlot.{ForeignSlot}
+use Rattle.broker_hosts.specs.declared.slot.ForeignSlot.TheVariants as foreign
+use Rattle.broker_hosts.specs.declared.slot.PartState.{PartState}
+use Rattle.broker_hosts.specs.declared.slot.PartState.TheVariants as part
+use Rattle.broker_hosts.specs.declared.slot.PartSlot.{PartSlot}
+use Rattle.broker_hosts.specs.Hosts.{AreCarried, AreDistinct, AreHeld, AreHeldParts, AreNamed, AreOpen, AreOpenParts, HostsParts, IsHeld, IsHeldState, IsOpen, IsOpenState, IsPartSlot, LeftDisks, LogsReach, StandStill, all_names, disks_in, ends_in, facts_at, facts_in, foreign_facts, hosted_slots, IsWhole}
+use Rattle.broker_core.specs.Calls.{BothGoOn, DiskGoesOn, GoesOnIf, GoOn, Halts, Leads, StaysHosted, counts_in, ends_over}
+use Rattle.broker_core.specs.Cores.{AreReopened, CoreParts, HasMoment, IsArmed, IsCore, StopsIn, Advances, state_of}
+use Rattle.broker_hosts.proofs.Places.{among_zip, zip_weaker, one_in_front, one_in_rest}
 use Rattle.broker_core.proofs.Leading.{still_all}
 use Rattle.broker_core.proofs.Reaching.{reach_all, reach_less}
 use Rattle.broker_core.proofs.Telling.{all_told}
@@ -70,25 +69,6 @@ restarted_told topics outcomes e = all_told topics outcomes (subst (λ (l : List
 
 -- ---- partitions
 
--- as many as the topics have together
-from_many : (conf : ConfigParts) (topic : Topic) (part more : ℕ) → length (hosted_from conf topic part more) ≡ more
-from_many conf topic part zero = refl
-from_many conf topic part (suc more) = ap suc (from_many conf topic (suc part) more)
-
-pub hosted_many : (conf : ConfigParts) (topics : List Topic) → length (hosted_in conf topics) ≡ partitions topics
-hosted_many conf [] = refl
-hosted_many conf (topic ∷ topics) =
-    length-append (hosted_from conf topic 0 topic.parts) (hosted_in conf topics)
-    ∙ (λ i. from_many conf topic 0 topic.parts i + hosted_many conf topics i)
-    ∙ sym (partitions_cons topic topics)
-
-slots_many : {D : Type 0} (slots : List (PartSlot D)) → length slots ≡ length (hosted_slots slots)
-slots_many [] = refl
-slots_many (s ∷ slots) = ap suc (slots_many slots)
-
-pub parts_many : {D : Type 0} (core : CoreParts D) → IsWhole core → length core.hosts.parts ≡ partitions core.conf.topics
-parts_many core whole = slots_many core.hosts.parts ∙ ap length whole.hosts ∙ hosted_many core.conf core.conf.topics
-
 lands_hosted : (old new : List HostedPart) → AllZip LandsPart old new → hosted_by new ≡ hosted_by old
 lands_hosted [] [] z = refl
 lands_hosted [] (f ∷ new) z = absurd z
@@ -114,13 +94,13 @@ module _ {D : Type 0} (seen : D → DiskView) where
   carried_hosted (s ∷ slots) [] z = absurd z
   carried_hosted (s ∷ slots) (p ∷ ps) z = λ i. z.0.hosted i ∷ carried_hosted slots ps z.1 i
 
-  hosts_are : (core : CoreParts D) (m : Machine) → IsWhole core → C core m → hosted_by m.shards.parts ≡ hosted_of core.conf
+  hosts_are : (core : CoreParts D) (m : Machine) → IsWhole core.conf core.hosts → C core m → hosted_by m.shards.parts ≡ hosted_of core.conf
   hosts_are core m whole k = carried_hosted core.hosts.parts m.shards.parts k.shards.parts ∙ whole.hosts
 
-  topics_are : (core : CoreParts D) (m : Machine) → IsWhole core → C core m → m.shards.members.topics ≡ core.conf.topics
+  topics_are : (core : CoreParts D) (m : Machine) → IsWhole core.conf core.hosts → C core m → m.shards.members.topics ≡ core.conf.topics
   topics_are core m whole k = ap (λ (g : Memberships). g.topics) k.shards.members ∙ whole.topics
 
-  taken_one : (core : CoreParts D) (name : List ℕ) → IsWhole core → IsTaken core.conf name → IsOneOf (all_names (hosted_slots core.hosts.parts)) name
+  taken_one : (core : CoreParts D) (name : List ℕ) → IsWhole core.conf core.hosts → IsTaken core.conf name → IsOneOf (all_names (hosted_slots core.hosts.parts)) name
   taken_one core name whole (inl one) =
       one_in_front (part_disks (hosted_slots core.hosts.parts)) (state_a ∷ state_b ∷ []) name
       (subst (λ (hs : List Hosted). IsOneOf (part_disks hs) name) (sym whole.hosts) one)
@@ -164,11 +144,11 @@ module _ {D : Type 0} (seen : D → DiskView) where
 
   -- ---- the partitions stay
 
-  pub still_whole : (old new : CoreParts D) → IsWhole old → new.conf ≡ old.conf → StaysHosted old.hosts new.hosts → AreHeld new.hosts → IsWhole new
-  still_whole old new whole same stays held = record {
+  pub still_whole : (conf : ConfigParts) (old new : HostsParts D) → IsWhole conf old → StaysHosted old new → AreHeld new → IsWhole conf new
+  still_whole conf old new whole stays held = record {
     held = held;
-    hosts = stays.hosted ∙ whole.hosts ∙ ap (λ (c : ConfigParts). hosted_of c) (sym same);
-    topics = stays.topics ∙ whole.topics ∙ ap (λ (c : ConfigParts). c.topics) (sym same);
+    hosts = stays.hosted ∙ whole.hosts;
+    topics = stays.topics ∙ whole.topics;
     apart = subst (λ (hs : List Hosted). AreDistinct (all_names hs)) (sym stays.hosted) whole.apart;
     named = subst AreNamed (sym stays.hosted) whole.named;
   }
@@ -189,7 +169,7 @@ module _ {D : Type 0} (seen : D → DiskView) where
     same = λ i. record { connections = (e ∙ ap change (sym k.connections)) i; shards = before.shards };
   }
 
-  pub opens : (old new : CoreParts D) (id : ℕ) → IsWhole old → new.hosts ≡ old.hosts → new.connections ≡ opened id old.connections → A old (Open id) [] new
+  pub opens : (old new : CoreParts D) (id : ℕ) → IsWhole old.conf old.hosts → new.hosts ≡ old.hosts → new.connections ≡ opened id old.connections → A old (Open id) [] new
   opens old new id whole same e before k = (
     record { connections = new.connections; shards = before.shards },
     None,
@@ -205,7 +185,7 @@ module _ {D : Type 0} (seen : D → DiskView) where
     },
   )
 
-  pub sends : (old new : CoreParts D) (id : ℕ) (bytes : List ℕ) → IsWhole old → new.hosts ≡ old.hosts
+  pub sends : (old new : CoreParts D) (id : ℕ) (bytes : List ℕ) → IsWhole old.conf old.hosts → new.hosts ≡ old.hosts
       → new.connections ≡ at_connection id (conn_after_bytes bytes) old.connections → A old (Bytes id bytes) [] new
   sends old new id bytes whole same e before k = (
     record { connections = new.connections; shards = before.shards },
@@ -222,7 +202,7 @@ module _ {D : Type 0} (seen : D → DiskView) where
     },
   )
 
-  pub closes : (old new : CoreParts D) (id : ℕ) → IsWhole old → new.hosts ≡ old.hosts
+  pub closes : (old new : CoreParts D) (id : ℕ) → IsWhole old.conf old.hosts → new.hosts ≡ old.hosts
       → new.connections ≡ ended_in id (conn_at id old.connections) old.connections → A old (Close id) [] new
   closes old new id whole same e before k = (
     record { connections = new.connections; shards = before.shards },
@@ -262,7 +242,7 @@ module _ {D : Type 0} (seen : D → DiskView) where
       subst (λ m. Serves old.conf (N old.hosts new) (ends_over old.hosts new) m id now (conn_at id m.connections) call outcomes after)
       (seen_is old before k) s
 
-  pub steps : (old new : CoreParts D) (id now : ℕ) (outcomes : List Outcome) → IsWhole old → GoOn seen (disks_in old.hosts) (disks_in new.hosts)
+  pub steps : (old new : CoreParts D) (id now : ℕ) (outcomes : List Outcome) → IsWhole old.conf old.hosts → GoOn seen (disks_in old.hosts) (disks_in new.hosts)
       → ((s : Shards) → AreCarried seen old.hosts s → Leads seen old.hosts s new.hosts
       (λ a call b. ServesIn old id now call outcomes new.hosts a (record { connections = new.connections; shards = b })))
       → A old (Step id now) outcomes new
@@ -287,7 +267,7 @@ module _ {D : Type 0} (seen : D → DiskView) where
   ExpiresIn old topic part now new a call outcomes b = (connections : List (ℕ × ConnParts)) → ExpiresAt (N old.hosts new) (ends_over old.hosts new) now
       (record { connections = connections; shards = a }) (shard_named topic part old.conf.topics) call outcomes (record { connections = connections; shards = b })
 
-  pub expires : (old new : CoreParts D) (topic : List ℕ) (part now : ℕ) (outcomes : List Outcome) → IsWhole old → new.connections ≡ old.connections
+  pub expires : (old new : CoreParts D) (topic : List ℕ) (part now : ℕ) (outcomes : List Outcome) → IsWhole old.conf old.hosts → new.connections ≡ old.connections
       → GoOn seen (disks_in old.hosts) (disks_in new.hosts)
       → ((s : Shards) → AreCarried seen old.hosts s → Leads seen old.hosts s new.hosts
       (λ a call b. ExpiresIn old topic part now new.hosts a call outcomes b))
@@ -308,7 +288,7 @@ module _ {D : Type 0} (seen : D → DiskView) where
         },
       )
 
-  pub ticks : (old new : CoreParts D) (now : ℕ) → IsWhole old → new.connections ≡ old.connections
+  pub ticks : (old new : CoreParts D) (now : ℕ) → IsWhole old.conf old.hosts → new.connections ≡ old.connections
       → GoOn seen (disks_in old.hosts) (disks_in new.hosts)
       → ((s : Shards) → AreCarried seen old.hosts s → Leads seen old.hosts s new.hosts
       (λ a call b. (call ≡ Some (CallMembers Ticks)) × StepsShards (N old.hosts new.hosts) (ends_over old.hosts new.hosts) now a (CallMembers Ticks) b))
@@ -330,7 +310,7 @@ module _ {D : Type 0} (seen : D → DiskView) where
         },
       )
 
-  pub arms_one : (old new : CoreParts D) (disk : List ℕ) (after : ℕ) (mode : FaultMode) → IsWhole old → new.connections ≡ old.connections
+  pub arms_one : (old new : CoreParts D) (disk : List ℕ) (after : ℕ) (mode : FaultMode) → IsWhole old.conf old.hosts → new.connections ≡ old.connections
       → GoOn seen (disks_in old.hosts) (disks_in new.hosts)
       → ((s : Shards) → AreCarried seen old.hosts s
       → IsArmed seen disk after mode old.hosts s new.hosts) → A old (Arm disk after mode) [] new
@@ -350,7 +330,7 @@ module _ {D : Type 0} (seen : D → DiskView) where
         },
       )
 
-  pub restarts : (old new : CoreParts D) (choice : ℕ) (outcomes : List Outcome) → IsWhole old → outcomes ≡ Restarted ∷ [] → new.connections ≡ []
+  pub restarts : (old new : CoreParts D) (choice : ℕ) (outcomes : List Outcome) → IsWhole old.conf old.hosts → outcomes ≡ Restarted ∷ [] → new.connections ≡ []
       → GoOn seen (disks_in old.hosts) (disks_in new.hosts)
       → ((s : Shards) → AreCarried seen old.hosts s
       → AreReopened seen choice old.hosts s new.hosts) → A old (Power choice) outcomes new

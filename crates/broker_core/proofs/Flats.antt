@@ -2,7 +2,7 @@
 use Rattle.std.proofs.Common.{◌≡◌, refl, sym, ap, subst, ℕ, zero, suc, List, [], ◌∷◌, ◌++◌, map, Bool, true, false, cond}
 use Rattle.std.specs.List.{AllByRecursion, AllZip, flat_map}
 use Rattle.broker_model.specs.Hosted.{ChangesAt, HoldsAt, same_name}
-use Rattle.broker_core.specs.Hosts.{among}
+use Rattle.broker_hosts.specs.Hosts.{among}
 
 -- ---- pieces one after another
 

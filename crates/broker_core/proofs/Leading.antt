@@ -1,7 +1,7 @@
 -- Calls on shards, and what they lead to.
 use Rattle.std.specs.List.{AllZip, flat_map}
 use Rattle.std.specs.Prelude.{◌||◌}
-use Rattle.std.proofs.Common.{◌≡◌, ◌⊎◌, ◌↔◌, ◌≤◌, ◌+◌, [], ◌∷◌, arith, inl, inr, refl, sym, ap, ◌∙◌, subst, ℕ, List, Bool, true, false, cond, Some, None, Result, Ok, Err}
+use Rattle.std.proofs.Common.{◌≡◌, ◌⊎◌, ◌≤◌, ◌+◌, [], ◌∷◌, arith, inl, inr, refl, sym, ap, ◌∙◌, subst, ℕ, List, Bool, true, false, cond, Some, None, Result, Ok, Err}
 use Rattle.std.specs.declared.option.Option.{Option}
 use Rattle.edge_io.specs.declared.name.DiskPlace.TheVariants.{Log, StateA, StateB}
 use Rattle.edge_io.specs.Armed.{RunsOn}
@@ -28,36 +28,26 @@ use Rattle.call_fold.specs.declared.part.PartAnswer.{PartAnswer}
 use Rattle.call_fold.specs.declared.part.PartAnswer.TheVariants.{Foreign as AnswerForeign, Heartbeat as AnswerHeartbeat}
 use Rattle.msgs_group.specs.declared.heartbeat_request.HeartbeatRequest.{HeartbeatRequest}
 use Rattle.msgs_group.specs.declared.heartbeat_reply.HeartbeatReply.{HeartbeatReply}
-use Rattle.broker_core.specs.declared.slot.ForeignSlot.{ForeignSlot}
-use Rattle.broker_core.specs.declared.slot.ForeignSlot.TheVariants as foreign
-use Rattle.broker_core.specs.declared.slot.PartState.{PartState}
-use Rattle.broker_core.specs.declared.slot.PartState.TheVariants as part
-use Rattle.broker_core.specs.declared.slot.PartSlot.{PartSlot}
-use Rattle.broker_core.specs.Carried.{IsCarried, GoesOn, OpenPart}
+use Rattle.broker_hosts.specs.declared.slot.ForeignSlot.{ForeignSlot}
+use Rattle.broker_hosts.specs.declared.slot.ForeignSlot.TheVariants as foreign
+use Rattle.broker_hosts.specs.declared.slot.PartState.{PartState}
+use Rattle.broker_hosts.specs.declared.slot.PartState.TheVariants as part
+use Rattle.broker_hosts.specs.declared.slot.PartSlot.{PartSlot}
+use Rattle.broker_hosts.specs.Carried.{IsCarried, GoesOn, OpenPart}
 use Rattle.broker_shards.specs.Acts.{ActsOnMembers, AnswersForeign, AnswersMembers}
 use Rattle.broker_shards.specs.declared.members.MembersAsk.TheVariants as asks
 use Rattle.broker_shards.specs.declared.members.MembersTold.{MembersTold}
 use Rattle.broker_shards.specs.declared.members.MembersTold.TheVariants as tells
 use Rattle.broker_shards.specs.Hosts.{holding}
-use Rattle.broker_core.specs.Hosts.{AreApart, AreCarried, AreDistinct, AreOpen, BothGoOn, Did, DiskGoesOn, ForeignStill, GoesOnIf, GoOn, Halts, HaltsBy, HostsParts, IsPartSlot, IsPartState, IsSlot, Leads, LeadsBy, LeftDisks, LogsLater, NotIn, PartStill, PartsStill, StandStill, StaysOpen, all_names, among, counts_in, disks_in, ends_in, facts_at, facts_in, foreign_disks, foreign_end, foreign_facts, hosted_slot, hosted_slots, part_disk, slot_ends, slots_disks}
-use Rattle.broker_core.proofs.Opening.{carried_stands}
+use Rattle.broker_hosts.specs.Hosts.{AreApart, AreCarried, AreDistinct, AreOpen, ForeignStill, HostsParts, IsPartSlot, IsPartState, IsSlot, LeftDisks, NotIn, PartStill, PartsStill, StandStill, all_names, among, disks_in, ends_in, facts_at, facts_in, foreign_disks, foreign_end, foreign_facts, hosted_slot, hosted_slots, part_disk, slot_ends, slots_disks}
+use Rattle.broker_core.specs.Calls.{BothGoOn, Did, DiskGoesOn, GoesOnIf, GoOn, Halts, HaltsBy, Leads, LeadsBy, LogsLater, StaysOpen, counts_in}
+use Rattle.broker_hosts.proofs.Opening.{carried_stands}
 use Rattle.broker_core.proofs.Parting.{answered_as, used_on}
-use Rattle.broker_core.proofs.Places.{zip_same, zip_weaker, apart_from, distinct_front, among_past, among_zip, not_both, one_in_either}
+use Rattle.broker_hosts.proofs.Places.{zip_same, zip_weaker, apart_from, distinct_front, among_past, among_zip, not_both, one_in_either}
 use Rattle.broker_core.proofs.Reaching.{SlotLater, names_later, names_reach, reach_all, same_later, slot_reaches, slots_reach}
-use Rattle.broker_core.proofs.Reopens.{images_left}
+use Rattle.broker_hosts.proofs.OpeningParts.{images_left}
 use Rattle.broker_core.proofs.Slots.{called_same, disk_names, end_names}
 use Rattle.edge_io.specs.Views.{DiskView}
-
-unless : (b : Bool) → (b ≡ true → ⊥) → b ≡ false
-unless true h = absurd (h refl)
-unless false h = refl
-
--- neither disk is starved where the store isn't
-pub fed_both : (starves a b : Bool) → starves ≡ false → ((starves ≡ true) ↔ ((a ≡ true) ⊎ (b ≡ true))) → (a ≡ false) × (b ≡ false)
-fed_both starves a b not either = (unless a (λ e. clash (sym not ∙ either.1 (inl e))), unless b (λ e. clash (sym not ∙ either.1 (inr e))))
-  where
-    clash : false ≡ true → ⊥
-    clash e = cc
 
 neither : (p q : Bool) → (p || q) ≡ false → p ≡ false
 neither true q is = absurd (let bad : true ≡ false = is in cc)

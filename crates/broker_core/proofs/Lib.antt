@@ -1,13 +1,9 @@
--- Stepping: what a step of a client means to the map of all clients. Places: lists of which one entry changes, and look-ups by name.
--- Images: what an opening leaves of a disk's images. Opening, Reopens: openings and restarts of foreign state, and of partitions. Flats,
--- Slots: the three disks of each slot by name. Reaching: how far the images of logs' disks reach. Parting, Calling: calls on a partition,
--- and on one slot of many. Leading: parts that shards do, and what they lead to. Arming, Losing: armed faults and power losses. Telling,
--- Clients: what is told of faults, and what a client's step leads to. Events: events. Naming: names of disks. Taking, Partitions, Pairs,
--- Starting: disks that are taken from a bay and put back, and what a start makes of them.
+-- Stepping: what a step of a client means to the map of all clients. Restarting, Reopens: restarts of foreign state, and of partitions.
+-- Flats, Slots: the three disks of each slot by name. Reaching: how far the images of logs' disks reach. Parting, Calling: calls on a
+-- partition, and on one slot of many. Leading: parts that shards do, and what they lead to. Arming, Losing: armed faults and power losses.
+-- Telling, Clients: what is told of faults, and what a client's step leads to. Events: events.
 pub mod Stepping
-pub mod Places
-pub mod Images
-pub mod Opening
+pub mod Restarting
 pub mod Reopens
 pub mod Flats
 pub mod Slots
@@ -20,8 +16,3 @@ pub mod Losing
 pub mod Telling
 pub mod Clients
 pub mod Events
-pub mod Naming
-pub mod Taking
-pub mod Partitions
-pub mod Pairs
-pub mod Starting

@@ -24,28 +24,29 @@ use Rattle.broker_model.specs.Shards.{HostedPart, Shards}
 use Rattle.broker_model.specs.Machine.{Lands, LandsPart, OpensPart, StandForStates, no_members}
 use Rattle.broker_model.specs.Disks.{Facts, IsRestarted}
 use Rattle.broker_model.proofs.Names.{first_not, second_not}
-use Rattle.broker_core.specs.declared.fault.CoreOpen.{CoreOpen}
-use Rattle.broker_core.specs.declared.fault.CoreOpen.TheVariants.{Device, Bay, NoMemory as want}
+use Rattle.broker_hosts.specs.declared.fault.CoreOpen.{CoreOpen}
+use Rattle.broker_hosts.specs.declared.fault.CoreOpen.TheVariants.{Device, Bay, NoMemory as want}
 use Rattle.broker_core.specs.declared.fault.CoreFault.{CoreFault}
 use Rattle.broker_core.specs.declared.fault.CoreFault.TheVariants.{NoMemory, Reopen}
-use Rattle.broker_core.specs.declared.slot.ForeignSlot.{ForeignSlot}
-use Rattle.broker_core.specs.declared.slot.ForeignSlot.TheVariants as foreign
-use Rattle.broker_core.specs.declared.slot.PartState.{PartState}
-use Rattle.broker_core.specs.declared.slot.PartState.TheVariants as part
-use Rattle.broker_core.specs.declared.slot.PartSlot.{PartSlot}
-use Rattle.broker_core.specs.Carried.{GoesOn, IsCarried, IsPartCarried, OpenPart}
+use Rattle.broker_hosts.specs.declared.slot.ForeignSlot.{ForeignSlot}
+use Rattle.broker_hosts.specs.declared.slot.ForeignSlot.TheVariants as foreign
+use Rattle.broker_hosts.specs.declared.slot.PartState.{PartState}
+use Rattle.broker_hosts.specs.declared.slot.PartState.TheVariants as part
+use Rattle.broker_hosts.specs.declared.slot.PartSlot.{PartSlot}
+use Rattle.broker_hosts.specs.Carried.{GoesOn, IsCarried, IsPartCarried, OpenPart}
 use Rattle.broker_shards.specs.Hosts.{holding}
 use Rattle.broker_core.specs.Restarts.{IsRestartedPart, IsRestartedShard, ReopensSlot, ShutsSlot, StopsAt}
 use Rattle.broker_core.specs.Foreign.{ReopensForeign, ShutsForeign}
-use Rattle.broker_core.specs.Hosts.{AreApart, AreCarried, AreDistinct, AreHeldParts, AreNamed, AreOpenParts, BothGoOn, BothRose, DiskGoesOn, ForeignStill, GoesOnIf, GoOn, HostsParts, IsHeld, IsHeldState, IsOpen, IsOpenState, IsPartSlot, IsPartState, IsSlot, LogsReach, NotIn, OneRose, PartRose, PartStandsAlone, RoseIf, StandStill, all_names, disks_in, ends_in, facts_at, facts_in, foreign_disks, foreign_end, foreign_facts, hosted_slot, hosted_slots, open_disk, part_disk, part_end, shut_disk, slot_disks, slot_ends, slots_disks}
+use Rattle.broker_hosts.specs.Hosts.{AreApart, AreCarried, AreDistinct, AreHeldParts, AreNamed, AreOpenParts, ForeignStill, HostsParts, IsHeld, IsHeldState, IsOpen, IsOpenState, IsPartSlot, IsPartState, IsSlot, LogsReach, NotIn, PartStandsAlone, StandStill, all_names, disks_in, ends_in, facts_at, facts_in, foreign_disks, foreign_end, foreign_facts, hosted_slot, hosted_slots, open_disk, part_disk, part_end, shut_disk, slot_disks, slot_ends, slots_disks}
+use Rattle.broker_core.specs.Calls.{BothGoOn, BothRose, DiskGoesOn, GoesOnIf, GoOn, OneRose, PartRose, RoseIf}
 use Rattle.broker_core.specs.Cores.{AreReopened}
 use Rattle.broker_core.proofs.Calling.{slot_goes}
 use Rattle.broker_core.proofs.Flats.{all_pieces, zip_flat}
 use Rattle.broker_core.proofs.Leading.{StillSlot, not_a_part, not_a_part_too, parts_apart, parts_still, same_both, same_goes, slot_still, still_all, still_foreign}
-use Rattle.broker_core.proofs.Opening.{pending_map}
-use Rattle.broker_core.proofs.Places.{DoneTo, among_past, among_zip, among_zip_where, each_found, not_both, one_in_either, zip_same, zip_weaker}
+use Rattle.broker_hosts.proofs.Opening.{pending_map}
+use Rattle.broker_hosts.proofs.Places.{DoneTo, among_past, among_zip, among_zip_where, each_found, not_both, one_in_either, zip_same, zip_weaker}
 use Rattle.broker_core.proofs.Reaching.{SlotReaches, again_reaches, names_reach, no_end, reach_all, reach_less, reaches_less, shut_reaches, slot_reaches, slots_reach}
-use Rattle.broker_core.proofs.Reopens.{part_left}
+use Rattle.broker_hosts.proofs.OpeningParts.{part_left}
 use Rattle.broker_core.proofs.Slots.{disk_names}
 use Rattle.edge_io.specs.Views.{DiskView}
 

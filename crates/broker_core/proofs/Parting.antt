@@ -25,10 +25,11 @@ use Rattle.broker_shards.specs.declared.part.PartAsk.TheVariants as asks
 use Rattle.broker_shards.specs.declared.part.PartTold.{PartTold}
 use Rattle.broker_shards.specs.declared.part.PartTold.TheVariants as tells
 use Rattle.broker_shards.proofs.Legal.{of_kind}
-use Rattle.broker_core.specs.declared.slot.PartSlot.{PartSlot}
-use Rattle.broker_core.specs.declared.slot.PartState.TheVariants as part
-use Rattle.broker_core.specs.Carried.{HaltsPart, IsCall, IsPartCarried, LeadsPart, OpenPart, PartGoesOn, Uses}
-use Rattle.broker_core.specs.Hosts.{DidPart, HaltsSlot, IsThere, LeadsSlot}
+use Rattle.broker_hosts.specs.declared.slot.PartSlot.{PartSlot}
+use Rattle.broker_hosts.specs.declared.slot.PartState.TheVariants as part
+use Rattle.broker_core.specs.PartCalls.{HaltsPart, IsCall, LeadsPart, PartGoesOn, Uses}
+use Rattle.broker_hosts.specs.Carried.{IsPartCarried, OpenPart}
+use Rattle.broker_core.specs.Calls.{DidPart, HaltsSlot, IsThere, LeadsSlot}
 
 module _ {D : Type 0} (seen : D → DiskView) where
   abbrev Carried : PartConfParts → OpenPart D → PartShardState → Type 0

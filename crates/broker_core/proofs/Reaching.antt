@@ -14,16 +14,17 @@ use Rattle.share_part.proofs.Reaching.{log_long, long}
 use Rattle.broker_model.specs.Hosted.{Hosted, IsLogName, first_of, log_of, second_of, state_a}
 use Rattle.broker_model.specs.Shards.{HostedPart, Shards}
 use Rattle.broker_model.proofs.Names.{first_not, second_not, state_a_not}
-use Rattle.broker_core.specs.declared.slot.ForeignSlot.{ForeignSlot}
-use Rattle.broker_core.specs.declared.slot.ForeignSlot.TheVariants as foreign
-use Rattle.broker_core.specs.declared.slot.PartState.{PartState}
-use Rattle.broker_core.specs.declared.slot.PartState.TheVariants as part
-use Rattle.broker_core.specs.declared.slot.PartSlot.{PartSlot}
-use Rattle.broker_core.specs.Carried.{OpenPart}
+use Rattle.broker_hosts.specs.declared.slot.ForeignSlot.{ForeignSlot}
+use Rattle.broker_hosts.specs.declared.slot.ForeignSlot.TheVariants as foreign
+use Rattle.broker_hosts.specs.declared.slot.PartState.{PartState}
+use Rattle.broker_hosts.specs.declared.slot.PartState.TheVariants as part
+use Rattle.broker_hosts.specs.declared.slot.PartSlot.{PartSlot}
+use Rattle.broker_hosts.specs.Carried.{OpenPart}
 use Rattle.broker_shards.specs.Hosts.{holding}
-use Rattle.broker_core.specs.Hosts.{AreCarried, HostsParts, IsPartSlot, IsPartState, LeftDisks, LogsLater, LogsReach, ReachesTo, disk_in, disks_in, ends_in, foreign_disk, foreign_disks, foreign_end, hosted_slot, part_disk, part_end, slot_disks, slot_ends, slots_disks}
+use Rattle.broker_hosts.specs.Hosts.{AreCarried, HostsParts, IsPartSlot, IsPartState, LeftDisks, LogsReach, ReachesTo, disk_in, disks_in, ends_in, foreign_disk, foreign_disks, foreign_end, hosted_slot, part_disk, part_end, slot_disks, slot_ends, slots_disks}
+use Rattle.broker_core.specs.Calls.{LogsLater}
 use Rattle.broker_core.proofs.Flats.{zip_flat}
-use Rattle.broker_core.proofs.Places.{among_zip_where, differs}
+use Rattle.broker_hosts.proofs.Places.{among_zip_where, differs}
 use Rattle.edge_io.specs.Views.{DiskView}
 
 -- ---- contents

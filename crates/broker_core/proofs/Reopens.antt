@@ -1,42 +1,27 @@
--- Openings and restarts of a hosted partition.
-use Rattle.std.proofs.Common.{◌≡◌, ◌≢◌, ◌≤◌, ◌⊎◌, arith, inl, inr, refl, sym, ◌∙◌, subst, ℕ, List, Bool, true, false, Some, is_some, Result, Ok, Err, IfErr, MatchResult, ◌↔◌}
+-- Restarts of a hosted partition.
+use Rattle.std.proofs.Common.{◌≡◌, ◌≢◌, ◌≤◌, arith, inl, inr, refl, sym, ◌∙◌, subst, ℕ, List, Some, is_some, Result, Ok, Err, IfErr, MatchResult}
 use Rattle.edge_io.specs.declared.fault.Armed.TheVariants.{Nothing}
-use Rattle.edge_io.specs.Armed.{RunsOn}
 use Rattle.edge_io.specs.Disk.{IsTold, Within}
 use Rattle.gate_journal.specs.Frames.{StandsAs, StandsFor}
 use Rattle.gate_journal.proofs.Once.{once}
 use Rattle.share_model.specs.ForeignRules.{ShareStates}
-use Rattle.part_log.specs.Logs.{IsLogText, frames_of, log_in}
+use Rattle.part_log.specs.Logs.{IsLogText, frames_of}
 use Rattle.part_log.specs.Starts.{Log}
 use Rattle.share_coord.specs.Raising.{raised_states}
-use Rattle.share_coord.specs.States.{AreStates, states_of}
+use Rattle.share_coord.specs.States.{AreStates}
 use Rattle.share_part.specs.Hosting.{ArePartText, PartConfParts}
 use Rattle.share_part.specs.Leaving.{IsLeftOf}
-use Rattle.edge_io.specs.declared.name.DiskPlace.{DiskPlace}
-use Rattle.edge_io.specs.declared.name.DiskPlace.TheVariants.{Log as LogDisk, LogB, StateA, StateB}
-use Rattle.coord_checkpoint.specs.Disks.{HasFailed}
-use Rattle.share_part.specs.Opening.{IsNotOpened, IsOpened}
-use Rattle.share_part.specs.declared.opening.PartFault.{PartFault}
-use Rattle.share_part.specs.declared.opening.PartFault.TheVariants.{Device}
-use Rattle.share_part.specs.Shards.{Carries, PartShardState, shard_with}
-use Rattle.share_part.proofs.Leavings.{left_of}
-use Rattle.broker_core.specs.declared.fault.CoreOpen.{CoreOpen}
-use Rattle.broker_core.specs.declared.fault.CoreOpen.TheVariants as fault
-use Rattle.broker_core.specs.Carried.{GoesOn, IsPartCarried, OpenPart}
-use Rattle.broker_shards.specs.Hosts.{holding}
-use Rattle.broker_core.specs.Hosts.{PartStandsAlone}
-use Rattle.broker_core.specs.Restarts.{IsLost, IsOpenedPart, IsRestartedPart, PartImagesStandAs}
-use Rattle.broker_core.proofs.Opening.{AreAlike, one_fault_left, opened_disk, restarted_disk, stored_alike, told_of}
+use Rattle.share_part.specs.Shards.{PartShardState, shard_with}
+use Rattle.broker_hosts.specs.declared.fault.CoreOpen.{CoreOpen}
+use Rattle.broker_hosts.specs.declared.fault.CoreOpen.TheVariants as fault
+use Rattle.broker_hosts.specs.Carried.{GoesOn, IsPartCarried, OpenPart}
+use Rattle.broker_hosts.specs.Hosts.{PartStandsAlone}
+use Rattle.broker_core.specs.Restarts.{IsLost, IsRestartedPart}
+use Rattle.broker_hosts.specs.Openings.{IsOpenedPart, PartImagesStandAs}
+use Rattle.broker_hosts.proofs.Opening.{AreAlike, one_fault_left, stored_alike, told_of}
+use Rattle.broker_core.proofs.Restarting.{restarted_disk}
 use Rattle.edge_io.specs.Views.{DiskView}
-
--- a partition that a device fault kept from being opened has a disk of these three that failed
-pub one_failed : {D : Type 0} (seen : D → DiskView) (conf : PartConfParts) (log a b log_now a_now b_now : D) (why : PartFault) (disk : DiskPlace)
-    → IsNotOpened seen conf log a b log_now a_now b_now why → why ≡ Device disk
-    → HasFailed seen log log_now ⊎ (HasFailed seen a a_now ⊎ HasFailed seen b b_now)
-one_failed seen conf log a b log_now a_now b_now why LogDisk r is = inl (r.log_device is)
-one_failed seen conf log a b log_now a_now b_now why LogB r is = absurd (r.log_b_device is)
-one_failed seen conf log a b log_now a_now b_now why StateA r is = inr (inl (r.first_device is))
-one_failed seen conf log a b log_now a_now b_now why StateB r is = inr (inr (r.second_device is))
+use Rattle.broker_hosts.proofs.OpeningParts.{part_left}
 
 -- they stand for the same log
 pub same_text : (c x : List ℕ) (b : Log) → AreAlike c x → IsLogText c b → IsLogText x b
@@ -65,65 +50,12 @@ same_part conf l x a y b z its states on_log on_first on_second t = record {
   hosted = t.hosted;
 }
 
-unless : (b : Bool) → (b ≡ true → ⊥) → b ≡ false
-unless true h = absurd (h refl)
-unless false h = refl
-
--- no disk is starved where none of three is
-pub fed_three : (starves a b c : Bool) → starves ≡ false → ((starves ≡ true) ↔ ((a ≡ true) ⊎ ((b ≡ true) ⊎ (c ≡ true))))
-    → (a ≡ false) × (b ≡ false) × (c ≡ false)
-fed_three starves a b c not either = (
-  unless a (λ e. clash (sym not ∙ either.1 (inl e))),
-  unless b (λ e. clash (sym not ∙ either.1 (inr (inl e)))),
-  unless c (λ e. clash (sym not ∙ either.1 (inr (inr e)))),
-)
-  where
-    clash : false ≡ true → ⊥
-    clash e = cc
-
 module _ {D : Type 0} (seen : D → DiskView) where
-  abbrev Runs : D → D → Type 0
-  Runs old new = RunsOn seen old new
-
   abbrev Carried : PartConfParts → OpenPart D → PartShardState → Type 0
   Carried conf part s = IsPartCarried seen conf part s
 
   abbrev Lost : ℕ → D → D → List ℕ → Type 0
   Lost choice old new c = IsLost seen choice old new c
-
-  -- the images of a partition that is carried
-  pub images_left : (conf : PartConfParts) (part : OpenPart D) (s : PartShardState) → part.conf ≡ conf → Carries seen holding part s → (l a b : List ℕ)
-      → (seen part.log.journal.disk).image l → (seen part.states.journal.first.disk).image a → (seen part.states.journal.second.disk).image b → IsLeftOf conf s l a b
-  images_left conf part s conf_is k l a b on_log on_first on_second =
-      subst (λ (c : PartConfParts). IsLeftOf c s l a b) conf_is (left_of seen holding part l a b on_log on_first on_second s k)
-
-  pub part_left : (conf : PartConfParts) (part : OpenPart D) (s : PartShardState) → Carried conf part s → (l a b : List ℕ)
-      → (seen part.log.journal.disk).image l → (seen part.states.journal.first.disk).image a → (seen part.states.journal.second.disk).image b → IsLeftOf conf s l a b
-  part_left conf part s k = images_left conf part s k.conf_is k.carries
-
-  pub opened_part : (conf : PartConfParts) (log first second : D) (l a b : List ℕ) (part : OpenPart D) → (seen log).content ≡ Some l → (seen first).content ≡ Some a
-      → (seen second).content ≡ Some b → IsOpened seen holding conf log first second part → Runs log part.log.journal.disk
-      → Runs first part.states.journal.first.disk → Runs second part.states.journal.second.disk → (seen part.log.journal.disk).starved ≡ false
-      → (seen part.states.journal.first.disk).starved ≡ false → (seen part.states.journal.second.disk).starved ≡ false
-      → IsOpenedPart seen conf log first second l a b part
-  opened_part conf log first second l a b part is is_first is_second o runs first_runs second_runs fed first_fed second_fed = record {
-    is = log_in part.log;
-    states = states_of part.states.entries;
-    carried = record {
-      conf_is = o.conf_is;
-      carries = o.carries;
-      log = record { told = runs.told ∙ told_of (seen log).content l is; fed = fed };
-      first = record { told = first_runs.told ∙ told_of (seen first).content a is_first; fed = first_fed };
-      second = record { told = second_runs.told ∙ told_of (seen second).content b is_second; fed = second_fed };
-    };
-    stands = o.opens l a b is is_first is_second;
-    only = λ other others h. let e = o.only l a b other others is is_first is_second h in (sym e.0, sym e.1);
-    on_log = opened_disk seen log part.log.journal.disk runs (told_of (seen log).content l is) fed;
-    on_first = opened_disk seen first part.states.journal.first.disk first_runs (told_of (seen first).content a is_first) first_fed;
-    on_second = opened_disk seen second part.states.journal.second.disk second_runs (told_of (seen second).content b is_second) second_fed;
-  }
-
-  -- ---- restarts
 
   pub restarted_part : (choice : ℕ) (conf : PartConfParts) (part : OpenPart D) (s : PartShardState) (log first second : D) (l a b : List ℕ) (new : OpenPart D)
       → Carried conf part s → Lost choice part.log.journal.disk log l → Lost choice part.states.journal.first.disk first a
@@ -131,7 +63,7 @@ module _ {D : Type 0} (seen : D → DiskView) where
       → IsOpenedPart seen conf log first second l a b new
       → IsRestartedPart seen choice conf part s new
   restarted_part choice conf part s log first second l a b new k p q r o =
-      let t = part_left conf part s k l a b p.was q.was r.was in
+      let t = part_left seen conf part s k l a b p.was q.was r.was in
       let e = o.only t.is (raised_states t.is.start t.states) t.text in
       let on_log = restarted_disk seen choice part.log.journal.disk log new.log.journal.disk l p o.on_log in
       let on_first = restarted_disk seen choice part.states.journal.first.disk first new.states.journal.first.disk a q o.on_first in
@@ -185,7 +117,7 @@ module _ {D : Type 0} (seen : D → DiskView) where
       → GoesOn seen part.states.journal.first.disk first → GoesOn seen part.states.journal.second.disk second
       → PartStandsAlone seen conf s log first second
   stands_within conf part s log first second k p q r on_log on_first on_second = record {
-    stand = λ l a b x y z. part_left conf part s k l a b (p l x) (q a y) (r b z);
+    stand = λ l a b x y z. part_left seen conf part s k l a b (p l x) (q a y) (r b z);
     log_told = on_log.told ∙ k.log.told;
     first_told = on_first.told ∙ k.first.told;
     second_told = on_second.told ∙ k.second.told;
@@ -200,7 +132,7 @@ module _ {D : Type 0} (seen : D → DiskView) where
   module _ (choice : ℕ) (conf : PartConfParts) (part : OpenPart D) (s : PartShardState) (log first second : D) (l a b : List ℕ) (k : Carried conf part s)
       (p : Lost choice part.log.journal.disk log l) (q : Lost choice part.states.journal.first.disk first a) (r : Lost choice part.states.journal.second.disk second b) where
     left : IsLeftOf conf s l a b
-    left = part_left conf part s k l a b p.was q.was r.was
+    left = part_left seen conf part s k l a b p.was q.was r.was
 
     not_opened : (new_log new_first new_second : D) → PartImagesStandAs seen log first second new_log new_first new_second
         → IsTold (seen new_log).content → IsTold (seen new_first).content → IsTold (seen new_second).content

@@ -19,14 +19,16 @@ use Rattle.broker_model.specs.Hosted.{Hosted, HoldsAt, first_of, has_disk, log_o
 use Rattle.broker_model.specs.Shards.{Counts, Ends, PartCall, StepsPart, faults_before, faults_behind, part_calls, reads_log, result_of, rose_at}
 use Rattle.broker_model.specs.Shards.PartCall.{Visits, Produces, Looks, Expires, Deletes}
 use Rattle.broker_model.specs.Disks.{Facts, IsUsed, OnCalled, facts_of}
-use Rattle.broker_core.specs.declared.slot.PartSlot.{PartSlot}
-use Rattle.broker_core.specs.declared.slot.PartState.{PartState}
-use Rattle.broker_core.specs.declared.slot.PartState.TheVariants as part
+use Rattle.broker_hosts.specs.declared.slot.PartSlot.{PartSlot}
+use Rattle.broker_hosts.specs.declared.slot.PartState.{PartState}
+use Rattle.broker_hosts.specs.declared.slot.PartState.TheVariants as part
 use Rattle.broker_model.specs.Acting.{TakesStep}
-use Rattle.broker_core.specs.Carried.{OpenPart, Uses, UsesLog, UsesStates, UsesVisit}
-use Rattle.broker_core.specs.Hosts.{AreDistinct, HostsParts, among, counts_in, disks_in, ends_in, ends_over, facts_at, facts_in, foreign_disks, foreign_end, foreign_facts, hosted_slot, hosted_slots, open_disk, open_end, part_disk, part_end, slot_disks, slot_ends, slots_disks}
+use Rattle.broker_hosts.specs.Carried.{OpenPart}
+use Rattle.broker_core.specs.PartCalls.{Uses, UsesLog, UsesStates, UsesVisit}
+use Rattle.broker_hosts.specs.Hosts.{AreDistinct, HostsParts, among, disks_in, ends_in, facts_at, facts_in, foreign_disks, foreign_end, foreign_facts, hosted_slot, hosted_slots, open_disk, open_end, part_disk, part_end, slot_disks, slot_ends, slots_disks}
+use Rattle.broker_core.specs.Calls.{counts_in, ends_over}
 use Rattle.broker_core.proofs.Flats.{pieces_at}
-use Rattle.broker_core.proofs.Places.{each_found}
+use Rattle.broker_hosts.proofs.Places.{each_found}
 use Rattle.edge_io.specs.Views.{DiskView}
 
 -- ---- names

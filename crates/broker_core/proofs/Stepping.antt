@@ -1,5 +1,5 @@
 -- What a client's step means to the broker.
-use Rattle.std.proofs.Common.{◌≡◌, ℕ, Bool, true, false, cond, List, [], ◌∷◌, Some, None, Result, Ok, Err, OnOk, OnErr, IfOk, IfErr, MatchResult, refl, sym, ap, ◌∙◌, subst}
+use Rattle.std.proofs.Common.{◌≡◌, ℕ, Bool, true, false, cond, List, [], ◌∷◌, Some, None, Result, Ok, Err, OnOk, OnErr, IfOk, IfErr, MatchResult, refl, sym, ap, ◌∙◌}
 use Rattle.std.specs.Map.{set_value, remove_entry}
 use Rattle.conn_core.specs.Conns.{ConnParts, is_gone, without_replies}
 use Rattle.broker_model.specs.Machine.{named, conn_at, at_connection, left}
@@ -79,13 +79,6 @@ left_at id d c es e = go (is_gone d) where
       ≡ cond gone (remove_entry (named id) es) (at_connection id (λ x. d) es)
   go true = removed_set id d es
   go false = changed_at id (λ x. d) es c e
-
-pub err_same : {T E : Type 0} (d e : E) → ◌≡◌ {A = Result T E} (Err d) (Err e) → d ≡ e
-err_same d e is = cc
-
--- an error that is known
-pub err_at : {T E : Type 0} (P : E → Type 0) (r : Result T E) (e : E) → r ≡ Err e → P e → IfErr r P
-err_at P r e is p = subst (λ q. IfErr q P) (sym is) p
 
 -- in either case
 pub both_ways : {T E P G : Type 0} (Q : E → Type 0) (r : Result T E) → (P → G) → ((e : E) → Q e → G) → OnOk r P → IfErr r Q → G

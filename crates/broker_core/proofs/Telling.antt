@@ -21,7 +21,7 @@ use Rattle.broker_model.specs.Shards.{Answered, ShardCall, answered_by, fault_of
 use Rattle.broker_model.specs.Shards.ShardCall.{CallForeign, CallPart, CallMembers}
 use Rattle.broker_model.specs.Shards.PartCall.{Visits, Produces, Looks, Expires, Deletes}
 use Rattle.broker_model.specs.Shards.MembersCall.{Beats, Ticks}
-use Rattle.broker_core.specs.Hosts.{IsThere, faults_in, faults_of_visit}
+use Rattle.broker_core.specs.Calls.{IsThere, faults_in, faults_of_visit}
 
 some_same : {A : Type 0} (a b : A) → Some a ≡ Some b → a ≡ b
 some_same a b e = cc

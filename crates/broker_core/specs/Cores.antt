@@ -9,13 +9,14 @@ use Rattle.session_script.specs.declared.event.Event.TheVariants.{Open, Bytes, C
 use Rattle.session_script.specs.declared.event.Outcome.{Outcome}
 use Rattle.topic_conf.specs.Configs.{ConfigParts}
 use Rattle.conn_core.specs.Conns.{ConnParts}
-use Rattle.broker_model.specs.Hosted.{IsLogName, IsOneOf, hosted_of, same_name, state_a, state_b}
+use Rattle.broker_model.specs.Hosted.{IsLogName, IsOneOf, same_name, state_a, state_b}
 use Rattle.broker_model.specs.Shards.{Counts, Ends, Shards, ShardCall}
 use Rattle.broker_model.specs.Machine.{Machine, OpensPart, StandForStates, LandAll}
 use Rattle.broker_model.specs.Disks.{IsRestarted, with_arm}
 use Rattle.broker_model.specs.Steps.{StepsTo}
 use Rattle.broker_model.specs.States.{State, IsStep}
-use Rattle.broker_core.specs.Hosts.{HostsParts, AreCarried, AreHeld, AreApart, AreNamed, LogsLater, LogsReach, StandStill, all_names, counts_in, disks_in, ends_in, facts_in, hosted_slots}
+use Rattle.broker_hosts.specs.Hosts.{HostsParts, AreCarried, LogsReach, StandStill, all_names, disks_in, ends_in, facts_in, hosted_slots, state_over}
+use Rattle.broker_core.specs.Calls.{LogsLater, counts_in}
 use Rattle.edge_io.specs.Views.{DiskView}
 
 -- moments are at most 2^62 milliseconds
@@ -37,14 +38,6 @@ pub record CoreParts (D : Type 0) : Type 0 where
 
 abbrev pub core_of : {D : Type 0} → ConfigParts → List (ℕ × ConnParts) → HostsParts D → CoreParts D
 core_of conf connections hosts = record { conf = conf; connections = connections; hosts = hosts }
-
--- it has the partitions and the topics of its configuration, each shard has its disks, and no two of these have one name
-pub record IsWhole {D : Type 0} (core : CoreParts D) : Type 0 where
-  pub held : AreHeld core.hosts
-  pub hosts : hosted_slots core.hosts.parts ≡ hosted_of core.conf
-  pub topics : core.hosts.members.topics ≡ core.conf.topics
-  pub apart : AreApart core.hosts
-  pub named : AreNamed (hosted_slots core.hosts.parts)
 
 -- A fault of the disk of this name was armed, if it is one of these, and nothing else has changed.
 pub record IsArmed {D : Type 0} (seen : D → DiskView) (disk : List ℕ) (passes : ℕ) (mode : FaultMode) (old : HostsParts D)
@@ -80,8 +73,7 @@ pub record IsCore {D : Type 0} (seen : D → DiskView)
 
 -- the machine, and what is known of the broker's disks
 abbrev pub state_of : {D : Type 0} → (D → DiskView) → Machine → CoreParts D → State
-state_of seen machine core =
-    record { machine = machine; disks = facts_in seen (disks_in core.hosts); ends = ends_in core.hosts }
+state_of seen machine core = state_over seen machine core.hosts
 
 -- For each machine that the broker stood for it stands for one now, with a step of the event between them.
 abbrev pub Advances : {D : Type 0} → (D → DiskView) → CoreParts D → Event → List Outcome → CoreParts D → Type 0

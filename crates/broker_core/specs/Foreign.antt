@@ -7,14 +7,15 @@ use Rattle.edge_io.specs.Causes.{Rose}
 use Rattle.share_coord.specs.Parts.{StoreParts}
 use Rattle.foreign_coord.specs.Shards.{ForeignShardState, Carries}
 use Rattle.broker_model.specs.Hosted.{state_a, state_b}
-use Rattle.broker_core.specs.declared.fault.CoreOpen.{CoreOpen}
-use Rattle.broker_core.specs.declared.fault.CoreOpen.TheVariants.{Device, Bay, NoMemory}
+use Rattle.broker_hosts.specs.declared.fault.CoreOpen.{CoreOpen}
+use Rattle.broker_hosts.specs.declared.fault.CoreOpen.TheVariants.{Device, Bay, NoMemory}
 use Rattle.broker_core.specs.declared.fault.CoreFault.{CoreFault}
 use Rattle.broker_core.specs.declared.fault.CoreFault.TheVariants as event_fault
-use Rattle.broker_core.specs.declared.slot.ForeignSlot.{ForeignSlot}
-use Rattle.broker_core.specs.declared.slot.ForeignSlot.TheVariants.{Open, Shut}
-use Rattle.broker_core.specs.Carried.{IsCarried, GoesOn}
-use Rattle.broker_core.specs.Restarts.{ImagesStandAs, IsRestartedShard, IsNotRestarted}
+use Rattle.broker_hosts.specs.declared.slot.ForeignSlot.{ForeignSlot}
+use Rattle.broker_hosts.specs.declared.slot.ForeignSlot.TheVariants.{Open, Shut}
+use Rattle.broker_hosts.specs.Carried.{IsCarried, GoesOn}
+use Rattle.broker_hosts.specs.Openings.{ImagesStandAs}
+use Rattle.broker_core.specs.Restarts.{IsRestartedShard, IsNotRestarted}
 use Rattle.edge_io.specs.Views.{DiskView}
 
 -- A fault of the first disk was armed, or of the second, or of none, by the name.

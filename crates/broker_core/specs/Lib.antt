@@ -1,8 +1,6 @@
 pub mod Causes
-pub mod Carried
-pub mod Hosts
+pub mod PartCalls
+pub mod Calls
 pub mod Restarts
 pub mod Foreign
 pub mod Cores
-pub mod Bays
-pub mod Taking

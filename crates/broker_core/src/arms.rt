@@ -3,13 +3,12 @@ ghost use Rattle.std.specs.Prelude.{◌≡◌, ◌↔◌, IsTrue, IfSome, MatchO
 ghost use Rattle.edge_io.specs.Names.{IsTextPlace, IsTopicName, hosted_name};
 ghost use Rattle.broker_model.specs.Hosted.{HoldsAt, disks_of, part_disks};
 ghost use Rattle.broker_model.specs.Shards.{Shards};
-ghost use Rattle.broker_core.specs.Hosts.{AreApart, AreCarried, AreNamed, AreOpen, ArmsSlot, IsOpen, IsOpenState, NotIn, StaysOpen, hosted_slot, hosted_slots, parts_of};
+ghost use Rattle.broker_hosts.specs.Hosts.{AreApart, AreCarried, AreNamed, AreOpen, IsOpen, IsOpenState, NotIn, hosted_slot, hosted_slots, parts_of};
+ghost use Rattle.broker_core.specs.Calls.{ArmsSlot, StaysOpen};
 ghost use Rattle.broker_core.specs.Cores.{IsArmed};
 ghost use Rattle.broker_core.specs.Foreign.{ArmsForeign};
 
-use crate::hosts::Hosts;
-use crate::names::disk_name;
-use crate::slot::{ForeignSlot, PartSlot, PartState};
+use broker_hosts::{ForeignSlot, Hosts, PartSlot, PartState, disk_name};
 use edge_io::{Disk, DiskName, DiskPlace, FaultMode};
 
 fn arm_part<D: Disk>(place: DiskPlace, after: u64, mode: FaultMode, slot: &mut PartSlot<D>)

@@ -3,29 +3,25 @@ ghost use Rattle.edge_io.specs.Bays.{IsSound, SameSlot};
 ghost use Rattle.edge_io.specs.Causes.{Rose};
 ghost use Rattle.session_script.specs.declared.event.Event.TheVariants.{Power};
 ghost use Rattle.session_script.specs.Output.{IsTold};
-ghost use Rattle.topic_conf.specs.Topics.{IsTopicList, partitions};
+ghost use Rattle.topic_conf.specs.Topics.{partitions};
 ghost use Rattle.broker_model.specs.Hosted.{IsOneOf, IsTaken};
 ghost use Rattle.broker_model.specs.Machine.{Machine};
 ghost use Rattle.broker_model.specs.Disks.{Disks};
-ghost use Rattle.broker_core.specs.Hosts.{AreApart, AreFresh, AreHeld, AreNamed, AreOpen, GoOn, IsFreshForeign, OneRose, StaysHosted, all_names, disks_in, hosted_slots, parts_of};
-ghost use Rattle.broker_core.specs.Restarts.{IsDamagedDisk};
-ghost use Rattle.broker_core.specs.Bays.{AreOut, ArePutBack, AreTakenFrom, HasLastCount, HasRisen, IsFirst, IsOfDevice, StandForAll, StaysAs, TellsDisks, TellsStill};
-ghost use Rattle.broker_core.specs.Taking.{RefusesAll, TakesAll, PutsAllBack};
-ghost use Rattle.broker_core.specs.Cores.{Advances, HasMoment, IsCore, IsWhole, StopsIn, core_of, state_of};
+ghost use Rattle.broker_hosts.specs.Hosts.{AreApart, AreFresh, AreHeld, AreOpen, IsFreshForeign, all_names, disks_in, hosted_slots, parts_of, IsWhole};
+ghost use Rattle.broker_core.specs.Calls.{GoOn, OneRose, StaysHosted};
+ghost use Rattle.broker_hosts.specs.Openings.{IsDamagedDisk};
+ghost use Rattle.broker_hosts.specs.Bays.{AreOut, ArePutBack, AreTakenFrom, HasLastCount, HasRisen, IsFirst, IsOfDevice, StandForAll, StaysAs, TellsDisks, TellsStill};
+ghost use Rattle.broker_core.specs.Cores.{Advances, HasMoment, IsCore, StopsIn, core_of, state_of};
 
 use crate::arms::arm;
-use crate::bay::{hosted_parts, put_foreign_back, put_parts_back, take_foreign, take_parts};
 use crate::client::{connect, disconnect, one, send, serve};
-use crate::fault::{CoreFault, CoreOpen};
-use crate::hosts::Hosts;
+use crate::fault::CoreFault;
 use crate::power::lose_power;
-use crate::slot::{ForeignSlot, PartSlot};
 use crate::timers::{expire, tick};
-use broker_shards::MembersHost;
+use broker_hosts::{CoreOpen, ForeignSlot, Hosts, PartSlot, open_hosts, put_hosts_back};
 use conn_core::Conn;
 use edge_io::{Bay, Disk};
 use session_script::{Event, Outcome};
-use share_members::GroupShard;
 use std::alloc::Global;
 use std::collections::BTreeMap;
 use std::marker::Model;
@@ -45,74 +41,15 @@ pub struct Core<D: Disk> {
 }
 
 impl<D: Disk> Model for Core<D> {
-    ghost use Rattle.broker_core.specs.Hosts.{parts_of};
-    ghost use Rattle.broker_core.specs.Cores.{CoreParts, IsWhole};
+    ghost use Rattle.broker_hosts.specs.Hosts.{parts_of};
+    ghost use Rattle.broker_core.specs.Cores.{CoreParts};
+    ghost use Rattle.broker_hosts.specs.Hosts.{IsWhole};
 
     ghost Value = { CoreParts D };
 
     ghost view = { λ c. record { conf = c.conf; connections = c.clients.entries; hosts = parts_of c.hosts } };
 
-    ghost invariant = { λ c. IsWhole (record { conf = c.conf; connections = c.clients.entries; hosts = parts_of c.hosts }) };
-}
-
-// Takes and opens all shards.
-fn take_hosts<D: Disk + Drop, B: Bay<D = D>>(
-    alloc: Global,
-    bay: &mut B,
-    conf: &Config,
-) -> Result<Hosts<D>, CoreOpen>
-    requires { AreOut B.seen [] bay.old }
-    ensures ok { IfOk result (λ hosts. TakesAll B.seen D.seen
-        conf.now bay.old (parts_of hosts) bay.new) }
-    ensures err { IfErr result (λ e. RefusesAll B.seen D.seen
-        conf.now e bay.old bay.new) }
-    ensures list { IsTopicList conf.now.topics }
-{
-    let Ok(hosted) = hosted_parts(alloc, conf) else {
-        return Err(CoreOpen::NoMemory);
-    };
-    let Ok(members) = GroupShard::new(alloc, conf) else {
-        return Err(CoreOpen::NoMemory);
-    };
-    let parts = take_parts(alloc, bay, hosted)?;
-    match take_foreign(alloc, bay) {
-        Ok(foreign) => Ok(Hosts {
-            parts,
-            members: MembersHost { members },
-            foreign,
-        }),
-        Err(fault) => {
-            put_parts_back(parts, bay);
-            Err(fault)
-        }
-    }
-}
-
-// What is told of a start that was refused: want of memory in place of a fault of a device or of the bay, where the
-// bay has found none.
-fn told_of<B: Bay>(bay: &B, fault: CoreOpen) -> CoreOpen
-    ensures told { (result ≡ fault) ⊎ (result ≡ CoreOpen.NoMemory) }
-    ensures fed { IsOfDevice result → (B.seen bay.now).starved ≡ false }
-{
-    let starved = bay.starved();
-    match fault {
-        CoreOpen::Device if starved => CoreOpen::NoMemory,
-        CoreOpen::Bay if starved => CoreOpen::NoMemory,
-        told => told,
-    }
-}
-
-// Puts the disks of all shards back.
-fn put_hosts_back<D: Disk + Drop, B: Bay<D = D>>(hosts: Hosts<D>, bay: &mut B)
-    requires named { AreNamed (hosted_slots (parts_of hosts).parts) }
-    requires held { AreHeld (parts_of hosts) }
-    requires apart { AreApart (parts_of hosts) }
-    requires out { (name : List ℕ) → IsOneOf (all_names (hosted_slots (parts_of hosts).parts)) name → (B.seen bay.old).out name ≡ true }
-    ensures { PutsAllBack B.seen D.seen (parts_of hosts) bay.old bay.new }
-{
-    let Hosts { parts, foreign, .. } = hosts;
-    put_parts_back(parts, bay);
-    put_foreign_back(foreign, bay);
+    ghost invariant = { λ c. IsWhole c.conf (parts_of c.hosts) };
 }
 
 // Does one event.
@@ -126,7 +63,7 @@ fn advance<D: Disk + Drop>(
 ) -> Result<Vec<Outcome>, CoreFault>
     requires open { AreOpen (parts_of hosts.old) }
     requires moment { HasMoment event.now }
-    requires whole { IsWhole (core_of conf.now clients.old.entries (parts_of hosts.old)) }
+    requires whole { IsWhole conf.now (parts_of hosts.old) }
     requires apart { AreApart (parts_of hosts.old) }
     requires hosted { length hosts.old.parts.items ≡ partitions conf.now.topics }
     ensures ok { IfOk result (λ outcomes. Advances D.seen
@@ -229,14 +166,14 @@ impl<D: Disk + Drop> Core<D> {
         ensures sound { IsSound B.seen D.seen bay.old →
             (result ≢ Err CoreOpen.Bay) × (result ≢ Err CoreOpen.Device) }
     {
-        match take_hosts(alloc, bay, &conf) {
+        match open_hosts(alloc, bay, &conf) {
             Ok(hosts) => Ok(Core {
                 conf,
                 clients: BTreeMap::new(alloc),
                 hosts,
                 alloc,
             }),
-            Err(fault) => Err(told_of(bay, fault)),
+            Err(fault) => Err(fault),
         }
     }
 
@@ -254,16 +191,6 @@ impl<D: Disk + Drop> Core<D> {
     {
         let Core { hosts, .. } = self;
         put_hosts_back(hosts, bay);
-    }
-
-    /// Its configuration and its shards. Who was connected is forgotten.
-    pub fn into_hosts(self) -> (Config, Hosts<D>)
-        ensures conf { result.0 ≡ self.conf }
-        ensures hosts { parts_of result.1 ≡ self.hosts }
-        ensures whole { IsWhole (core_of self.conf [] self.hosts) }
-    {
-        let Core { conf, hosts, .. } = self;
-        (conf, hosts)
     }
 
     /// Its configuration.

@@ -5,12 +5,13 @@ ghost use Rattle.broker_model.specs.Shards.{PartCall};
 ghost use Rattle.broker_shards.specs.Acts.{asked_by};
 ghost use Rattle.broker_shards.specs.Acts.PartDeed.{Calls};
 ghost use Rattle.broker_shards.specs.Histories.{IsToldOf};
-ghost use Rattle.broker_core.specs.Carried.{IsCall};
-ghost use Rattle.broker_core.specs.Hosts.{AreApart, AreOpen, AreOpenParts, DidPart, HaltsBy, HaltsSlot, IsOpenState};
-ghost use Rattle.broker_core.specs.Hosts.{LeadsBy, LeadsSlot, StaysOpen, parts_of};
+ghost use Rattle.broker_core.specs.PartCalls.{IsCall};
+ghost use Rattle.broker_hosts.specs.Hosts.{AreApart, AreOpen, AreOpenParts, IsOpenState};
+ghost use Rattle.broker_core.specs.Calls.{DidPart, HaltsBy, HaltsSlot};
+ghost use Rattle.broker_core.specs.Calls.{LeadsBy, LeadsSlot, StaysOpen};
+ghost use Rattle.broker_hosts.specs.Hosts.{parts_of};
 
-use crate::hosts::Hosts;
-use crate::slot::{PartSlot, PartState};
+use broker_hosts::{Hosts, PartSlot, PartState};
 use broker_shards::{PartAsk, PartTold, act_on_part};
 use edge_io::Disk;
 use share_model::NoMemory;

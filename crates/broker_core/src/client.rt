@@ -8,10 +8,12 @@ ghost use Rattle.conn_core.specs.Conns.{ConnParts, conn_after_bytes, without_rep
 ghost use Rattle.conn_core.specs.Turning.{Awaits, turn};
 ghost use Rattle.broker_model.specs.Machine.{Machine, named, opened, at_connection, conn_at, ended_in};
 ghost use Rattle.broker_model.specs.Steps.{Does, DoesTurn, Serves, replies_to};
-ghost use Rattle.broker_core.specs.Hosts.{AreApart, AreOpen, HaltsBy, LeadsBy, StaysOpen, parts_of};
+ghost use Rattle.broker_hosts.specs.Hosts.{AreApart, AreOpen, parts_of};
+ghost use Rattle.broker_core.specs.Calls.{HaltsBy, LeadsBy, StaysOpen};
 
-use crate::hosts::{Hosts, act};
+use crate::hosts::act;
 use crate::told::{fault_of_visit, told, visit_of};
+use broker_hosts::Hosts;
 use conn_core::{Conn, Next, Part};
 use edge_io::Disk;
 use session_script::Outcome;

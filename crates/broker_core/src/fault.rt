@@ -1,26 +1,13 @@
-ghost use Rattle.std.specs.Prelude.{◌≡◌, ◌≢◌, ◌⊎◌, List, ℕ, true, false, IfErr, OnOk, OnErr};
+ghost use Rattle.std.specs.Prelude.{◌≡◌, ◌≢◌, ◌⊎◌, List, ℕ, IfErr, OnOk, OnErr};
 ghost use Rattle.edge_io.specs.Causes.{Rose};
 ghost use Rattle.edge_io.specs.Disk.{IsTold, Within};
-ghost use Rattle.broker_core.specs.Carried.{GoesOn};
+ghost use Rattle.broker_hosts.specs.Carried.{GoesOn};
 ghost use Rattle.broker_core.specs.Restarts.{IsLost};
 ghost use Rattle.broker_core.specs.Causes.{no_memory};
 
-use edge_io::{Disk, DiskName};
+use broker_hosts::{CoreOpen, fault_of_call};
+use edge_io::Disk;
 use share_model::NoMemory;
-
-/// Why a broker was not opened.
-#[derive(Drop)]
-pub enum CoreOpen {
-    /// The content of this disk isn't store text: this byte, counted from 0, is the first that the format doesn't
-    /// allow.
-    Damaged { disk: DiskName, place: u64 },
-    /// A call of a disk failed.
-    Device,
-    /// The bay gave no disk.
-    Bay,
-    /// There was no memory.
-    NoMemory,
-}
 
 /// Why an event was not done. No event may follow it.
 #[derive(Drop)]
@@ -36,19 +23,6 @@ impl From<NoMemory> for CoreFault {
 
     fn from(_: NoMemory) -> CoreFault {
         CoreFault::NoMemory
-    }
-}
-
-/// Why a call of a disk failed.
-pub fn fault_of_call<D: Disk>(disk: &D) -> CoreOpen
-    ensures device { result ≡ CoreOpen.Device → (D.seen disk.now).starved ≡ false }
-    ensures memory { (D.seen disk.now).starved ≡ true → result ≡ CoreOpen.NoMemory }
-    ensures only { (result ≡ CoreOpen.Device) ⊎ (result ≡ CoreOpen.NoMemory) }
-{
-    if disk.starved() {
-        CoreOpen::NoMemory
-    } else {
-        CoreOpen::Device
     }
 }
 

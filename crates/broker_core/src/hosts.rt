@@ -1,30 +1,21 @@
-// All shards as a broker holds them, and the parts that they do.
+// The parts that the shards do.
 ghost use Rattle.std.specs.Prelude.{◌≡◌, ◌≢◌, ◌≤◌, ◌<◌, ◌^◌, Some, IfOk, OnErr, OnOk, length};
 ghost use Rattle.call_fold.specs.Parts.{IsAnswerTo};
 ghost use Rattle.call_fold.specs.declared.part.Part.{Part};
 ghost use Rattle.call_fold.specs.declared.part.PartAnswer.{PartAnswer};
 ghost use Rattle.broker_shards.specs.Answering.{part_asking};
-ghost use Rattle.broker_core.specs.Hosts.{AreApart, AreOpen, Did, HaltsBy, IsThere, LeadsBy, StaysOpen, parts_of};
+ghost use Rattle.broker_hosts.specs.Hosts.{AreApart, AreOpen, parts_of};
+ghost use Rattle.broker_core.specs.Calls.{Did, HaltsBy, IsThere, LeadsBy, StaysOpen};
 
 use crate::calls::act_at;
-use crate::slot::{ForeignSlot, PartSlot};
+use broker_hosts::{ForeignSlot, Hosts};
 use broker_shards::{
-    MembersAsk, MembersHost, MembersTold, PartAsk, ShardAsk, act_on_foreign, act_on_members,
-    answer_of, ask_of,
+    MembersAsk, MembersTold, PartAsk, ShardAsk, act_on_foreign, act_on_members, answer_of, ask_of,
 };
 use conn_core::{Part, PartAnswer};
 use edge_io::Disk;
 use share_model::NoMemory;
 use std::alloc::Global;
-
-/// The shards: those of the hosted partitions, in the order of their numbers, the members of all groups, and foreign
-/// state.
-#[derive(Drop)]
-pub struct Hosts<D: Disk> {
-    pub parts: Vec<PartSlot<D>>,
-    pub members: MembersHost,
-    pub foreign: ForeignSlot<D>,
-}
 
 // What a hosted partition answers to a part.
 fn ask_part<D: Disk>(

@@ -2,22 +2,16 @@
 #![tactic(auto)]
 
 mod arms;
-mod bay;
 mod broker;
 mod calls;
 mod client;
 mod fault;
 mod hosts;
-mod names;
 mod part;
 mod power;
 mod shard;
-mod slot;
 mod timers;
 mod told;
 
-pub use bay::{put_foreign_back, put_part_back};
 pub use broker::Core;
-pub use fault::{CoreFault, CoreOpen};
-pub use hosts::Hosts;
-pub use slot::{ForeignSlot, PartSlot, PartState};
+pub use fault::CoreFault;

@@ -3,16 +3,16 @@ ghost use Rattle.std.specs.Prelude.{◌≡◌, ◌≢◌, ◌-◌, IfErr, OnOk, 
 ghost use Rattle.std.specs.List.{AllZip};
 ghost use Rattle.edge_io.specs.Names.{IsTopicName};
 ghost use Rattle.broker_model.specs.Shards.{Shards};
-ghost use Rattle.broker_core.specs.Hosts.{AreApart, AreCarried, AreHeld, AreNamed, AreOpen, AreOpenParts, GoOn, IsOpen, IsOpenState, LogsReach, OneRose, StandStill, StaysHosted, disks_in, ends_in, hosted_slots, parts_of};
+ghost use Rattle.broker_hosts.specs.Hosts.{AreApart, AreCarried, AreHeld, AreNamed, AreOpen, AreOpenParts, IsOpen, IsOpenState, LogsReach, StandStill, disks_in, ends_in, hosted_slots, parts_of};
+ghost use Rattle.broker_core.specs.Calls.{GoOn, OneRose, StaysHosted};
 ghost use Rattle.broker_core.specs.Restarts.{ReopensSlot, ShutsSlot, StopsAt};
 ghost use Rattle.broker_core.specs.Cores.{AreReopened};
 ghost use Rattle.broker_core.specs.Foreign.{ReopensForeign, ShutsForeign};
 
-use crate::fault::{CoreFault, CoreOpen, told};
-use crate::hosts::Hosts;
+use crate::fault::{CoreFault, told};
 use crate::part::restart_part;
 use crate::shard::restart;
-use crate::slot::{ForeignSlot, PartSlot, PartState};
+use broker_hosts::{CoreOpen, ForeignSlot, Hosts, PartSlot, PartState};
 use broker_shards::MembersHost;
 use edge_io::Disk;
 use share_members::GroupShard;

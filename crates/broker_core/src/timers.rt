@@ -11,11 +11,12 @@ ghost use Rattle.broker_model.specs.Shards.ShardCall.{CallMembers};
 ghost use Rattle.broker_model.specs.Shards.MembersCall.{Ticks};
 ghost use Rattle.broker_model.specs.Shards.PartCall.{Expires};
 ghost use Rattle.broker_model.specs.Steps.{ExpiresAt};
-ghost use Rattle.broker_core.specs.Hosts.{AreApart, AreOpen, DidPart, ExpiresShard, HaltsBy, LeadsBy, StaysOpen, parts_of};
+ghost use Rattle.broker_hosts.specs.Hosts.{AreApart, AreOpen, parts_of};
+ghost use Rattle.broker_core.specs.Calls.{DidPart, ExpiresShard, HaltsBy, LeadsBy, StaysOpen};
 
 use crate::calls::act_at;
-use crate::hosts::Hosts;
 use crate::told::{fault_of_expiry, told};
+use broker_hosts::Hosts;
 use broker_shards::{MembersAsk, PartAsk, PartTold, act_on_members};
 use edge_io::Disk;
 use session_script::Outcome;

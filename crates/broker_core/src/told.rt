@@ -2,7 +2,7 @@
 ghost use Rattle.std.specs.Prelude.{◌≡◌, IfOk};
 ghost use Rattle.std.specs.Option.{option_to_list};
 ghost use Rattle.broker_model.specs.Shards.{fault_of_expiry, fault_of_release};
-ghost use Rattle.broker_core.specs.Hosts.{faults_of_visit, visit_of};
+ghost use Rattle.broker_core.specs.Calls.{faults_of_visit, visit_of};
 
 use conn_core::{Part, PartAnswer};
 use session_script::Outcome;

@@ -8,14 +8,14 @@ use Rattle.shard_lock.specs.History.{Leads}
 use Rattle.shard_lock.specs.Passes.{Account, LockParts, PassParts, passes_of}
 use Rattle.topic_conf.specs.Configs.{ConfigParts}
 use Rattle.broker_model.specs.Hosted.{Hosted, IsOneOf, disks_of, hosted_of, part_disks, state_a, state_b}
-use Rattle.broker_core.specs.Hosts.{AreApart, AreDistinct, AreNamed, IsNamed, NotIn, all_names, hosted_slot, hosted_slots, slot_disks, slots_disks}
-use Rattle.broker_core.specs.Taking.{PutsAll, PutsAllBack, PutsForeignBack}
-use Rattle.broker_core.specs.declared.slot.ForeignSlot.TheVariants as foreign_slot
-use Rattle.broker_core.specs.declared.slot.PartSlot.{PartSlot}
-use Rattle.broker_core.proofs.Partitions.{Putting, names_of_disks, putting_apart, putting_named, putting_out}
-use Rattle.broker_core.proofs.Places.{one_in_rest}
-use Rattle.broker_core.proofs.Starting.{all_back, all_in, all_rise, back_moves, back_noted, names_in, no_state_a, no_state_b, others_same}
-use Rattle.broker_core.proofs.Taking.{puts_others, puts_then}
+use Rattle.broker_hosts.specs.Hosts.{AreApart, AreDistinct, AreNamed, IsNamed, NotIn, all_names, hosted_slot, hosted_slots, slot_disks, slots_disks}
+use Rattle.broker_hosts.specs.Taking.{PutsAll, PutsAllBack, PutsForeignBack}
+use Rattle.broker_hosts.specs.declared.slot.ForeignSlot.TheVariants as foreign_slot
+use Rattle.broker_hosts.specs.declared.slot.PartSlot.{PartSlot}
+use Rattle.broker_hosts.proofs.Partitions.{Putting, names_of_disks, putting_apart, putting_named, putting_out}
+use Rattle.broker_hosts.proofs.Places.{one_in_rest}
+use Rattle.broker_hosts.proofs.Starting.{all_back, all_in, all_rise, back_moves, back_noted, names_in, no_state_a, no_state_b, others_same}
+use Rattle.broker_hosts.proofs.Taking.{puts_others, puts_then}
 use Rattle.broker_shards.specs.Acts.{ActsForeign, ActsMembers, ActsPart}
 use Rattle.broker_shards.specs.Hosts.{Host}
 use Rattle.broker_shards.specs.declared.foreign.ForeignHost.{ForeignHost}

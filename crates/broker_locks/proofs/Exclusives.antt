@@ -17,7 +17,7 @@ use Rattle.share_part.specs.Visits.{StepsVisit}
 use Rattle.shard_lock.specs.History.{Leads}
 use Rattle.shard_lock.specs.declared.shard.Entry.{Entry}
 use Rattle.broker_model.specs.Acting.{TakesStep}
-use Rattle.broker_core.proofs.Places.{differs, same_self}
+use Rattle.broker_hosts.proofs.Places.{differs, same_self}
 use Rattle.broker_model.specs.Hosted.{Hosted, first_of, log_of, same_name, second_of, state_store}
 use Rattle.broker_model.specs.Locks.{IsAboveStart}
 use Rattle.broker_model.specs.PartHistory.{IsPartHistory, StepsAlone}

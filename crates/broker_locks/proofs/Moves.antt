@@ -7,9 +7,9 @@ use Rattle.shard_lock.specs.History.{Leads}
 use Rattle.shard_lock.specs.Passes.{LockParts, PassParts}
 use Rattle.shard_lock.specs.declared.shard.Entry.{Entry}
 use Rattle.broker_model.proofs.Ungranted.{carried_above}
-use Rattle.broker_core.specs.Hosts.{hosted_slot}
-use Rattle.broker_core.proofs.Opening.{carried_stands}
-use Rattle.broker_core.proofs.Reopens.{images_left}
+use Rattle.broker_hosts.specs.Hosts.{hosted_slot}
+use Rattle.broker_hosts.proofs.Opening.{carried_stands}
+use Rattle.broker_hosts.proofs.OpeningParts.{images_left}
 use Rattle.broker_shards.specs.Acts.{ActsForeign, ActsPart}
 use Rattle.broker_shards.specs.Hosts.{Host, holding}
 use Rattle.broker_shards.specs.declared.foreign.ForeignEvent.{ForeignEvent}

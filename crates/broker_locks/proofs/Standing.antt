@@ -7,7 +7,7 @@ use Rattle.share_part.specs.Shards.{PartShardState}
 use Rattle.shard_lock.specs.Passes.{LockParts, PassParts}
 use Rattle.broker_model.specs.Hosted.{Hosted, first_of, log_of, second_of}
 use Rattle.broker_model.specs.Shards.{HostedPart, Shards}
-use Rattle.broker_core.specs.Hosts.{AreCarried, IsPartSlot, PartStandsAlone, PartStill, PartsStill, hosted_slot, slots_disks}
+use Rattle.broker_hosts.specs.Hosts.{AreCarried, IsPartSlot, PartStandsAlone, PartStill, PartsStill, hosted_slot, slots_disks}
 use Rattle.broker_shards.specs.Hosts.{Host}
 use Rattle.broker_shards.specs.declared.part.PartEvent.{PartEvent}
 use Rattle.broker_locks.specs.Closing.{AreLeft, LeavesPart, PartsLead, StandBehind}

@@ -13,9 +13,9 @@ use Rattle.shard_lock.specs.Passes.{LockParts, PassParts}
 use Rattle.topic_conf.specs.Configs.{ConfigParts}
 use Rattle.broker_model.specs.Hosted.{IsOneOf, IsTaken}
 use Rattle.broker_model.specs.Shards.{HostedPart, Shards}
-use Rattle.broker_core.specs.Bays.{AreOut, ArePutBack, HasRisen, TellsStill}
-use Rattle.broker_core.specs.Carried.{IsCarried, IsPartCarried}
-use Rattle.broker_core.specs.Hosts.{AreCarried, PartStandsAlone, StandAlone, StandStill, disks_in}
+use Rattle.broker_hosts.specs.Bays.{AreOut, ArePutBack, HasRisen, TellsStill}
+use Rattle.broker_hosts.specs.Carried.{IsCarried, IsPartCarried}
+use Rattle.broker_hosts.specs.Hosts.{AreCarried, PartStandsAlone, StandAlone, StandStill, disks_in}
 use Rattle.broker_shards.specs.Acts.{ActsForeign, ActsMembers, ActsPart}
 use Rattle.broker_shards.specs.Hosts.{Host, holding}
 use Rattle.broker_shards.specs.declared.foreign.ForeignEvent.{ForeignEvent}

@@ -10,16 +10,15 @@ use Rattle.topic_conf.specs.Configs.{ConfigParts}
 use Rattle.broker_model.specs.Disks.{Disks}
 use Rattle.broker_model.specs.Hosted.{Hosted}
 use Rattle.broker_model.specs.Machine.{Machine}
-use Rattle.broker_core.specs.Carried.{AreFreshStates, IsFresh}
-use Rattle.broker_core.specs.Bays.{AreOut, AreTakenFrom, HasLastCount, IsFirst, IsOfDevice, StandForAll, StaysAs, TellsDisks}
-use Rattle.broker_core.specs.Cores.{IsCore, IsWhole, core_of, state_of}
-use Rattle.broker_core.specs.Hosts.{HostsParts, all_names, disks_in, hosted_slots}
-use Rattle.broker_core.specs.Restarts.{IsDamagedDisk}
-use Rattle.broker_core.specs.declared.fault.CoreOpen.{CoreOpen}
-use Rattle.broker_core.specs.declared.fault.CoreOpen.TheVariants as open_fault
-use Rattle.broker_core.specs.declared.slot.ForeignSlot.TheVariants as foreign
-use Rattle.broker_core.specs.declared.slot.PartSlot.{PartSlot}
-use Rattle.broker_core.specs.declared.slot.PartState.TheVariants as part
+use Rattle.broker_hosts.specs.Carried.{AreFreshStates, IsFresh}
+use Rattle.broker_hosts.specs.Bays.{AreOut, AreTakenFrom, HasLastCount, IsFirst, IsOfDevice, StandForAll, StaysAs, TellsDisks}
+use Rattle.broker_hosts.specs.Hosts.{AreCarried, HostsParts, IsWhole, all_names, disks_in, hosted_slots, state_over}
+use Rattle.broker_hosts.specs.Openings.{IsDamagedDisk}
+use Rattle.broker_hosts.specs.declared.fault.CoreOpen.{CoreOpen}
+use Rattle.broker_hosts.specs.declared.fault.CoreOpen.TheVariants as open_fault
+use Rattle.broker_hosts.specs.declared.slot.ForeignSlot.TheVariants as foreign
+use Rattle.broker_hosts.specs.declared.slot.PartSlot.{PartSlot}
+use Rattle.broker_hosts.specs.declared.slot.PartState.TheVariants as part
 use Rattle.broker_shards.specs.Hosts.{Host}
 use Rattle.broker_locks.specs.Shared.{ShardParts}
 
@@ -42,7 +41,7 @@ names_in shards = all_names (hosted_in shards)
 
 -- they are those of the partitions and topics of this configuration
 abbrev pub AreWhole : {D : Type 0} → ConfigParts → ShardParts D → Type 0
-AreWhole conf shards = IsWhole (core_of conf [] (hosts_of shards))
+AreWhole conf shards = IsWhole conf (hosts_of shards)
 
 -- ---- an opening
 
@@ -51,7 +50,7 @@ AreWhole conf shards = IsWhole (core_of conf [] (hosts_of shards))
 pub record IsOpening {B D : Type 0} (bay_seen : B → BayView D) (seen : D → DiskView) (conf : ConfigParts) (old new : B)
     (shards : ShardParts D) : Type 0 where
   pub opens : (contents : List ℕ → List ℕ) (was : Disks) → TellsDisks bay_seen seen conf old contents was → (m : Machine)
-      × IsCore seen (core_of conf [] (hosts_of shards)) m × IsFirst conf contents was (state_of seen m (core_of conf [] (hosts_of shards)))
+      × AreCarried seen (hosts_of shards) m.shards × IsFirst conf contents was (state_over seen m (hosts_of shards))
   pub fresh : AllByRecursion (λ (h : Host D). IsFresh seen h.part) shards.parts
   pub fresh_states : AreFreshStates seen shards.foreign.foreign
   pub whole : AreWhole conf shards

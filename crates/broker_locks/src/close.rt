@@ -2,8 +2,8 @@
 ghost use Rattle.std.specs.Prelude.{◌≡◌, ◌<◌, List, ℕ, map, true};
 ghost use Rattle.std.specs.List.{AllByRecursion, AllZip};
 ghost use Rattle.broker_model.specs.Hosted.{IsOneOf, disks_of, part_disks};
-ghost use Rattle.broker_core.specs.Hosts.{AreDistinct, AreNamed, IsNamed, hosted_slot, hosted_slots, slot_disks, slots_disks};
-ghost use Rattle.broker_core.specs.Taking.{PutsAll};
+ghost use Rattle.broker_hosts.specs.Hosts.{AreDistinct, AreNamed, IsNamed, hosted_slot, hosted_slots, slot_disks, slots_disks};
+ghost use Rattle.broker_hosts.specs.Taking.{PutsAll};
 ghost use Rattle.broker_shards.specs.Acts.{ActsPart};
 ghost use Rattle.broker_shards.specs.Hosts.{Host};
 ghost use Rattle.broker_locks.specs.Closing.{Closes};
@@ -12,7 +12,7 @@ ghost use Rattle.broker_locks.specs.Rows.{AreAll, AreEnded, StandsFor};
 ghost use Rattle.broker_locks.specs.Shared.{first_shards};
 
 use crate::shared::{Passes, Shared, gather};
-use broker_core::{ForeignSlot, PartSlot, PartState, put_foreign_back, put_part_back};
+use broker_hosts::{ForeignSlot, PartSlot, PartState, put_foreign_back, put_part_back};
 use broker_shards::{ForeignHost, PartHost};
 use edge_io::{Bay, Disk};
 use shard_lock::{Pass, ShardLock};

@@ -3,15 +3,15 @@ ghost use Rattle.std.specs.List.{AllByRecursion};
 ghost use Rattle.std.specs.Prelude.{◌≡◌, ◌<◌, ◌≤◌, ◌⊎◌, [], List, ℕ, IfErr, IfOk, map};
 ghost use Rattle.edge_io.specs.Bays.{SameSlot};
 ghost use Rattle.broker_model.specs.Hosted.{IsTaken};
-ghost use Rattle.broker_core.specs.Bays.{AreOut, TellsStill};
-ghost use Rattle.broker_core.specs.Hosts.{AreOpen, AreOpenParts, IsOpen, IsOpenState, parts_of};
-ghost use Rattle.broker_core.specs.declared.slot.ForeignSlot.TheVariants as foreign;
+ghost use Rattle.broker_hosts.specs.Bays.{AreOut, TellsStill};
+ghost use Rattle.broker_hosts.specs.Hosts.{AreOpen, AreOpenParts, IsOpen, IsOpenState, IsWhole, parts_of};
+ghost use Rattle.broker_hosts.specs.declared.slot.ForeignSlot.TheVariants as foreign;
 ghost use Rattle.broker_locks.specs.Opening.{AreWhole, IsOpening, IsRefused, hosts_of, slot_of};
 ghost use Rattle.broker_locks.specs.Rows.{AreAll, IsUnused, shards_of};
 ghost use Rattle.broker_locks.specs.Shared.{first_shards};
 
 use crate::shared::{Passes, ShardSet, Shared, lock_shards};
-use broker_core::{Core, CoreOpen, ForeignSlot, Hosts, PartSlot, PartState};
+use broker_hosts::{CoreOpen, ForeignSlot, Hosts, PartSlot, PartState, open_hosts};
 use broker_shards::{ForeignHost, PartHost};
 use edge_io::{Bay, Disk};
 use share_model::NoMemory;
@@ -79,22 +79,22 @@ fn shards_in<D: Disk + Drop>(alloc: Global, hosts: Hosts<D>) -> Result<ShardSet<
     })
 }
 
-// A lock around each shard of a broker that was just opened, and so many passes. Where no memory is found its disks
-// are dropped.
-fn lock_core<D: Disk + Drop>(
+// A lock around each shard that was just opened, and so many passes. Where no memory is found the disks are dropped.
+fn lock_hosts<D: Disk + Drop>(
     alloc: Global,
-    core: Core<D>,
+    conf: Config,
+    hosts: Hosts<D>,
     seats: u32,
 ) -> Result<(Shared<D>, Vec<Passes<D>>), CoreOpen>
-    requires open { AreOpen core.hosts }
+    requires open { AreOpen (parts_of hosts) }
+    requires whole { IsWhole conf (parts_of hosts) }
     requires some { 0 < seats }
-    ensures locks { IfOk result (λ r. hosts_of (first_shards r.0) ≡ core.hosts) }
-    ensures whole { IfOk result (λ r. (r.0.conf ≡ core.conf) × AreWhole core.conf (first_shards r.0)) }
+    ensures locks { IfOk result (λ r. hosts_of (first_shards r.0) ≡ parts_of hosts) }
+    ensures whole { IfOk result (λ r. (r.0.conf ≡ conf) × AreWhole conf (first_shards r.0)) }
     ensures passes { IfOk result (λ r. AreAll r.0 seats r.1.items) }
     ensures unused { IfOk result (λ r. AllByRecursion IsUnused r.1.items) }
     ensures memory { IfErr result (λ e. e ≡ CoreOpen.NoMemory) }
 {
-    let (conf, hosts) = core.into_hosts();
     let Ok(shards) = shards_in(alloc, hosts) else {
         return Err(CoreOpen::NoMemory);
     };
@@ -127,8 +127,8 @@ pub fn open_shared<D: Disk + Drop, B: Bay<D = D>>(
     ensures later { (B.seen bay.old).faults ≤ (B.seen bay.new).faults }
     ensures told { TellsStill B.seen bay.old bay.new }
 {
-    match Core::start(alloc, bay, conf) {
-        Ok(core) => lock_core(alloc, core, seats),
+    match open_hosts(alloc, bay, &conf) {
+        Ok(hosts) => lock_hosts(alloc, conf, hosts, seats),
         Err(fault) => Err(fault),
     }
 }

@@ -5,8 +5,8 @@ use Rattle.edge_io.specs.Bays.{SameSlot}
 use Rattle.edge_io.specs.Views.{BayView, DiskView}
 use Rattle.topic_conf.specs.Configs.{ConfigParts}
 use Rattle.broker_model.specs.Hosted.{Hosted}
-use Rattle.broker_core.specs.Bays.{AreOut, TellsStill}
-use Rattle.broker_core.specs.Hosts.{all_names}
+use Rattle.broker_hosts.specs.Bays.{AreOut, TellsStill}
+use Rattle.broker_hosts.specs.Hosts.{all_names}
 use Rattle.broker_locks.specs.Closing.{Closes}
 use Rattle.broker_locks.specs.Opening.{IsOpening}
 use Rattle.broker_run.specs.Server.{Serves}

@@ -6,8 +6,8 @@ use Rattle.std.specs.Prelude.{◌≡◌, List, []}
 use Rattle.std.specs.List.{AllByRecursion}
 use Rattle.edge_io.specs.Views.{BayView, DiskView}
 use Rattle.topic_conf.specs.Configs.{ConfigParts}
-use Rattle.broker_core.specs.Bays.{AreOut, TellsStill}
-use Rattle.broker_core.specs.declared.fault.CoreOpen.{CoreOpen}
+use Rattle.broker_hosts.specs.Bays.{AreOut, TellsStill}
+use Rattle.broker_hosts.specs.declared.fault.CoreOpen.{CoreOpen}
 use Rattle.broker_locks.specs.Closing.{Closes}
 use Rattle.broker_locks.specs.Opening.{IsOpening}
 use Rattle.broker_locks.specs.Shared.{PassesParts, SharedParts, first_shards}

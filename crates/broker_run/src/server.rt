@@ -2,7 +2,7 @@
 ghost use Rattle.std.specs.Prelude.{◌≡◌, ◌<◌, ◌+◌, ◌^◌, [], List, ℕ};
 ghost use Rattle.edge_io.specs.Bays.{SameSlot};
 ghost use Rattle.broker_model.specs.Hosted.{IsTaken};
-ghost use Rattle.broker_core.specs.Bays.{AreOut, TellsStill};
+ghost use Rattle.broker_hosts.specs.Bays.{AreOut, TellsStill};
 ghost use Rattle.broker_run.specs.Homes.{HasLinksEnd};
 ghost use Rattle.broker_locks.specs.Opening.{IsRefused};
 ghost use Rattle.broker_run.specs.Server.{EndsServing, Serves};
@@ -10,7 +10,7 @@ ghost use Rattle.broker_run.specs.Working.{HasWorked};
 
 use crate::jobs::{LinksEnd, serve_links};
 use crate::owned::{JobOwned, JobShared};
-use broker_core::CoreOpen;
+use broker_hosts::CoreOpen;
 use broker_locks::{close_shared, open_shared};
 use edge_io::{Bay, Clock, Disk, Gate, Listener, Spawner};
 use std::alloc::Global;

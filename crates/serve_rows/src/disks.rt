@@ -1,7 +1,7 @@
 // Disks in memory whose content nobody is told, one of which may hold a write.
 ghost use Rattle.std.specs.Prelude.{[]};
 ghost use Rattle.edge_real.specs.Seen.{folder_view};
-ghost use Rattle.broker_core.specs.Bays.{AreOut};
+ghost use Rattle.broker_hosts.specs.Bays.{AreOut};
 ghost use Rattle.share_top.specs.Loading.{NoneIsOut};
 
 use crate::board::{BEGUN, BROKEN, Board, RELEASED};

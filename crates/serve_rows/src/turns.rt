@@ -2,7 +2,7 @@
 ghost use Rattle.std.specs.Prelude.{[]};
 ghost use Rattle.std.specs.List.{AllByRecursion};
 ghost use Rattle.edge_real.specs.Seen.{folder_view};
-ghost use Rattle.broker_core.specs.Bays.{AreOut};
+ghost use Rattle.broker_hosts.specs.Bays.{AreOut};
 ghost use Rattle.broker_locks.specs.Acting.{AreOf, HostsAll};
 ghost use Rattle.broker_locks.specs.Rows.{IsAlone};
 

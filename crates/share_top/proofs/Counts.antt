@@ -8,14 +8,15 @@ use Rattle.edge_io.specs.declared.name.DiskPlace.{DiskPlace}
 use Rattle.edge_io.specs.declared.name.DiskPlace.TheVariants.{Log, StateA, StateB}
 use Rattle.topic_conf.specs.Configs.{ConfigParts}
 use Rattle.broker_model.specs.Hosted.{IsTaken, state_a, state_b}
-use Rattle.broker_core.specs.declared.slot.ForeignSlot.{ForeignSlot}
-use Rattle.broker_core.specs.declared.slot.ForeignSlot.TheVariants as foreign
-use Rattle.broker_core.specs.declared.slot.PartState.{PartState}
-use Rattle.broker_core.specs.declared.slot.PartState.TheVariants as part
-use Rattle.broker_core.specs.declared.slot.PartSlot.{PartSlot}
-use Rattle.broker_core.specs.Bays.{AreTakenFrom, TakenIf, BothTaken, IsTakenFrom, HasName, HasRisen, RisenIf, OneRisen, BothRisen}
-use Rattle.broker_core.specs.Carried.{GoesOn}
-use Rattle.broker_core.specs.Hosts.{HostsParts, LeftDisks, AreOpen, AreOpenParts, IsOpen, IsOpenState, GoOn, GoesOnIf, DiskGoesOn, BothGoOn, OneRose, RoseIf, PartRose, BothRose, disks_in, foreign_disks, open_disk, part_disk, slots_disks}
+use Rattle.broker_hosts.specs.declared.slot.ForeignSlot.{ForeignSlot}
+use Rattle.broker_hosts.specs.declared.slot.ForeignSlot.TheVariants as foreign
+use Rattle.broker_hosts.specs.declared.slot.PartState.{PartState}
+use Rattle.broker_hosts.specs.declared.slot.PartState.TheVariants as part
+use Rattle.broker_hosts.specs.declared.slot.PartSlot.{PartSlot}
+use Rattle.broker_hosts.specs.Bays.{AreTakenFrom, TakenIf, BothTaken, IsTakenFrom, HasName, HasRisen, RisenIf, OneRisen, BothRisen}
+use Rattle.broker_hosts.specs.Carried.{GoesOn}
+use Rattle.broker_hosts.specs.Hosts.{HostsParts, LeftDisks, AreOpen, AreOpenParts, IsOpen, IsOpenState, disks_in, foreign_disks, open_disk, part_disk, slots_disks}
+use Rattle.broker_core.specs.Calls.{GoOn, GoesOnIf, DiskGoesOn, BothGoOn, OneRose, RoseIf, PartRose, BothRose}
 use Rattle.share_top.specs.Changes.{bay_change}
 use Rattle.share_top.specs.Sessions.{CountRose}
 use Rattle.edge_io.specs.Views.{DiskView, BayView}

@@ -9,12 +9,12 @@ use Rattle.text_pieces.specs.declared.fault.GenFault.{GenFault}
 use Rattle.text_pieces.specs.declared.fault.GenFault.TheVariants as gen_fault
 use Rattle.text_pieces.specs.Pieces.{WritesPieces}
 use Rattle.text_pieces.proofs.Going.{IsSoFar, failed, handed, hands_all, said}
-use Rattle.broker_core.specs.declared.slot.ForeignSlot.{ForeignSlot}
-use Rattle.broker_core.specs.declared.slot.ForeignSlot.TheVariants as foreign
-use Rattle.broker_core.specs.declared.slot.PartSlot.{PartSlot}
-use Rattle.broker_core.specs.declared.slot.PartState.{PartState}
-use Rattle.broker_core.specs.declared.slot.PartState.TheVariants as part
-use Rattle.broker_core.specs.Hosts.{AreOpenParts, IsPartSlot, IsPartState, IsSlot, states_at, states_in}
+use Rattle.broker_hosts.specs.declared.slot.ForeignSlot.{ForeignSlot}
+use Rattle.broker_hosts.specs.declared.slot.ForeignSlot.TheVariants as foreign
+use Rattle.broker_hosts.specs.declared.slot.PartSlot.{PartSlot}
+use Rattle.broker_hosts.specs.declared.slot.PartState.{PartState}
+use Rattle.broker_hosts.specs.declared.slot.PartState.TheVariants as part
+use Rattle.broker_hosts.specs.Hosts.{AreOpenParts, IsPartSlot, IsPartState, IsSlot, states_at, states_in}
 use Rattle.broker_core.specs.Cores.{CoreParts, IsCore}
 use Rattle.broker_model.specs.Machine.{Machine}
 use Rattle.broker_model.specs.Shards.{HostedPart}

@@ -21,15 +21,16 @@ use Rattle.broker_model.specs.Shards.{Shards, HostedPart, hosted_by}
 use Rattle.broker_model.specs.Machine.{Machine, StandWith, StandsFor, StandsForPart}
 use Rattle.broker_model.specs.Disks.{Facts, Disks, facts_of}
 use Rattle.broker_model.specs.States.{ReachTo, State}
-use Rattle.broker_core.specs.declared.fault.CoreOpen.{CoreOpen}
-use Rattle.broker_core.specs.declared.fault.CoreOpen.TheVariants as open_fault
-use Rattle.broker_core.specs.declared.slot.PartSlot.{PartSlot}
-use Rattle.broker_core.specs.Bays.{IsOfDevice, StaysAs, TellsDisks, TellsStill, IsFirst, ArePutBack, HoldsIf, BothHold, HasName}
-use Rattle.broker_core.specs.Hosts.{LeftDisks, GoOn, DiskGoesOn, LogsReach, IsPartSlot, StandStill, ForeignStill, PartStill, PartsStill, ReachesTo, among, disk_in, disks_in, facts_at, facts_in, facts_among, foreign_disk, foreign_facts, hosted_slot, hosted_slots, slots_disks}
+use Rattle.broker_hosts.specs.declared.fault.CoreOpen.{CoreOpen}
+use Rattle.broker_hosts.specs.declared.fault.CoreOpen.TheVariants as open_fault
+use Rattle.broker_hosts.specs.declared.slot.PartSlot.{PartSlot}
+use Rattle.broker_hosts.specs.Bays.{IsOfDevice, StaysAs, TellsDisks, TellsStill, IsFirst, ArePutBack, HoldsIf, BothHold, HasName}
+use Rattle.broker_hosts.specs.Hosts.{LeftDisks, LogsReach, IsPartSlot, StandStill, ForeignStill, PartStill, PartsStill, ReachesTo, among, disk_in, disks_in, facts_at, facts_in, facts_among, foreign_disk, foreign_facts, hosted_slot, hosted_slots, slots_disks}
+use Rattle.broker_core.specs.Calls.{GoOn, DiskGoesOn}
 use Rattle.broker_core.specs.Cores.{CoreParts, IsCore, state_of}
-use Rattle.broker_core.specs.Restarts.{IsDamagedDisk, IsOpenedDisk}
-use Rattle.broker_core.proofs.Opening.{is_told}
-use Rattle.broker_core.proofs.Places.{is_same, one_in_either, same_self}
+use Rattle.broker_hosts.specs.Openings.{IsDamagedDisk, IsOpenedDisk}
+use Rattle.broker_hosts.proofs.Opening.{is_told}
+use Rattle.broker_hosts.proofs.Places.{is_same, one_in_either, same_self}
 use Rattle.share_top.specs.declared.status.Status.{Status}
 use Rattle.share_top.specs.declared.status.Status.TheVariants.{Done, Usage, Malformed, ReadFault, WriteFault, Damaged, Device, NoMemory, Listener, Spawner, Lost, Refused, Strange}
 use Rattle.share_top.specs.Changes.{InputChange, OutputChange, bay_change}

@@ -8,7 +8,7 @@ use Rattle.broker_model.specs.Machine.{Machine}
 use Rattle.broker_model.specs.Disks.{Disks}
 use Rattle.broker_model.specs.States.{State, IsStep}
 use Rattle.broker_model.specs.Runs.{Step, outcomes_of}
-use Rattle.broker_core.specs.Hosts.{LeftDisks, LogsReach, StandStill, disks_in, ends_in, facts_in}
+use Rattle.broker_hosts.specs.Hosts.{LeftDisks, LogsReach, StandStill, disks_in, ends_in, facts_in}
 use Rattle.broker_core.specs.Cores.{CoreParts, IsCore, Reaches, state_of}
 use Rattle.broker_core.proofs.Leading.{still_all}
 use Rattle.broker_core.proofs.Reaching.{reach_all, reach_less}

@@ -9,7 +9,8 @@ use Rattle.session_script.specs.Unread.{Unread}
 use Rattle.session_script.specs.Reading.{Takes}
 use Rattle.broker_model.specs.Machine.{Machine}
 use Rattle.broker_model.specs.States.{State}
-use Rattle.broker_core.specs.Hosts.{AreOpen, GoOn, OneRose, disks_in}
+use Rattle.broker_hosts.specs.Hosts.{AreOpen, disks_in}
+use Rattle.broker_core.specs.Calls.{GoOn, OneRose}
 use Rattle.broker_core.specs.Cores.{CoreParts, IsCore, state_of}
 use Rattle.broker_core.proofs.Leading.{go_on_same}
 use Rattle.share_top.specs.declared.replay.Stopped.{Stopped}

@@ -4,9 +4,9 @@ use Rattle.edge_io.specs.Bays.{IsSound}
 use Rattle.edge_io.specs.Causes.{Rose}
 use Rattle.edge_io.specs.Views.{DiskView, BayView}
 use Rattle.broker_model.specs.Hosted.{IsTaken}
-use Rattle.broker_core.specs.Bays.{AreOut, TellsStill}
-use Rattle.broker_core.specs.declared.fault.CoreOpen.{CoreOpen}
-use Rattle.broker_core.specs.declared.fault.CoreOpen.TheVariants as open_fault
+use Rattle.broker_hosts.specs.Bays.{AreOut, TellsStill}
+use Rattle.broker_hosts.specs.declared.fault.CoreOpen.{CoreOpen}
+use Rattle.broker_hosts.specs.declared.fault.CoreOpen.TheVariants as open_fault
 use Rattle.broker_run.specs.Homes.{HasLinksEnd}
 use Rattle.broker_locks.specs.Opening.{IsRefused}
 use Rattle.broker_run.specs.Server.{Serves}

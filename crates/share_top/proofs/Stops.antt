@@ -13,9 +13,9 @@ use Rattle.session_script.specs.declared.writer.LineFault.{LineFault}
 use Rattle.session_script.specs.declared.writer.LineFault.TheVariants as line_fault
 use Rattle.session_script.specs.Output.{malformed_line}
 use Rattle.session_script.specs.Writing.{WritesText}
-use Rattle.broker_core.specs.declared.fault.CoreOpen.{CoreOpen}
-use Rattle.broker_core.specs.declared.fault.CoreOpen.TheVariants as open_fault
-use Rattle.broker_core.specs.Hosts.{LeftDisks}
+use Rattle.broker_hosts.specs.declared.fault.CoreOpen.{CoreOpen}
+use Rattle.broker_hosts.specs.declared.fault.CoreOpen.TheVariants as open_fault
+use Rattle.broker_hosts.specs.Hosts.{LeftDisks}
 use Rattle.broker_core.specs.Cores.{CoreParts}
 use Rattle.share_top.specs.declared.replay.Stopped.{Stopped}
 use Rattle.share_top.specs.declared.replay.Stopped.TheVariants as stopped

@@ -13,7 +13,7 @@ use Rattle.broker_model.specs.Hosted.{IsTaken}
 use Rattle.broker_model.specs.Shards.{HostedPart, Shards}
 use Rattle.broker_model.specs.Machine.{Machine, Opening, StandsFor}
 use Rattle.broker_model.specs.Disks.{Disks}
-use Rattle.broker_core.specs.Restarts.{IsOpenedDisk}
+use Rattle.broker_hosts.specs.Openings.{IsOpenedDisk}
 use Rattle.share_top.specs.declared.status.Status.{Status}
 use Rattle.share_top.specs.declared.status.Status.TheVariants.{Done, WriteFault, Device, NoMemory}
 use Rattle.share_top.specs.Apart.{LeavesOthers}

@@ -12,7 +12,7 @@ use Rattle.broker_model.specs.Laws.{HoldsOfRun}
 use Rattle.broker_model.specs.Runs.{IsRun, Step}
 use Rattle.broker_model.specs.Starts.{BeginsWell}
 use Rattle.broker_model.specs.States.{State}
-use Rattle.broker_core.specs.Bays.{IsFirst, TellsDisks}
+use Rattle.broker_hosts.specs.Bays.{IsFirst, TellsDisks}
 use Rattle.share_top.specs.Changes.{BayChange}
 
 -- a run of a broker from its disks as they were at entry, where the bay tells them

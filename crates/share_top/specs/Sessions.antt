@@ -20,8 +20,8 @@ use Rattle.broker_model.specs.Disks.{Disks}
 use Rattle.broker_model.specs.Steps.{StepsTo}
 use Rattle.broker_model.specs.States.{ReachTo, State, faults_of}
 use Rattle.broker_model.specs.Runs.{Step, IsRun, events_of, outcomes_of}
-use Rattle.broker_core.specs.Bays.{TellsDisks, IsFirst, StandForAll, HasLastCount}
-use Rattle.broker_core.specs.Restarts.{IsDamagedDisk}
+use Rattle.broker_hosts.specs.Bays.{TellsDisks, IsFirst, StandForAll, HasLastCount}
+use Rattle.broker_hosts.specs.Openings.{IsDamagedDisk}
 use Rattle.share_top.specs.Changes.{BayChange, OutputChange}
 
 -- ---- what was written of a run's outcomes

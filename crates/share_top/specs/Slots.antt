@@ -2,8 +2,8 @@
 -- For example one that was just started has the text of what its disks stand for.
 use Rattle.std.specs.Prelude.{ℕ, List, [], ◌∷◌, ◌++◌, codes}
 use Rattle.std.specs.List.{flat_map}
-use Rattle.broker_core.specs.declared.slot.PartSlot.{PartSlot}
-use Rattle.broker_core.specs.Hosts.{HostsParts, states_at, states_in}
+use Rattle.broker_hosts.specs.declared.slot.PartSlot.{PartSlot}
+use Rattle.broker_hosts.specs.Hosts.{HostsParts, states_at, states_in}
 use Rattle.share_top.specs.Dumping.{foreign_texts, tables_text}
 
 abbrev pub slot_text : {D : Type 0} → PartSlot D → List ℕ

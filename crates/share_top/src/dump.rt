@@ -3,7 +3,7 @@ ghost use Rattle.std.specs.Prelude.{◌≡◌, ◌≢◌, ◌++◌, ◌∷◌, [
 ghost use Rattle.std.specs.List.{flat_map};
 ghost use Rattle.edge_io.specs.Bays.{IsSound};
 ghost use Rattle.text_pieces.specs.Pieces.{WritesPieces};
-ghost use Rattle.broker_core.specs.Hosts.{AreOpen, AreOpenParts, IsOpen, states_at};
+ghost use Rattle.broker_hosts.specs.Hosts.{AreOpen, AreOpenParts, IsOpen, states_at};
 ghost use Rattle.broker_model.specs.Hosted.{IsTaken};
 ghost use Rattle.share_top.specs.Apart.{LeavesOthers};
 ghost use Rattle.share_top.specs.Changes.{bay_change, output_change};
@@ -15,7 +15,8 @@ ghost use Rattle.share_top.specs.Slots.{core_text, slot_text};
 use crate::hosting::are_hosted;
 use crate::refusal::refuse;
 use crate::status::Status;
-use broker_core::{Core, ForeignSlot, PartSlot};
+use broker_core::Core;
+use broker_hosts::{ForeignSlot, PartSlot};
 use edge_io::{Bay, Disk, Sink, write_all};
 use share_coord::States;
 use share_model::Name;

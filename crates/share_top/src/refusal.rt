@@ -4,7 +4,7 @@ ghost use Rattle.share_top.specs.Changes.{output_change};
 ghost use Rattle.share_top.specs.Going.{IsRefusal};
 
 use crate::status::Status;
-use broker_core::CoreOpen;
+use broker_hosts::CoreOpen;
 use edge_io::Sink;
 use session_script::{LineFault, write_damaged};
 use std::alloc::Global;

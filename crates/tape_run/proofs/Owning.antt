@@ -11,9 +11,9 @@ use Rattle.broker_model.specs.Shards.{Counts, Ends, HostedPart, PartCall, ShardC
 use Rattle.broker_model.specs.Shards.ShardCall.{CallForeign, CallPart, CallMembers}
 use Rattle.broker_model.specs.Shards.PartCall.{Visits, Produces, Looks, Expires, Deletes}
 use Rattle.broker_model.proofs.Stores.{both_of, is_same, one_of, two_disks}
-use Rattle.broker_core.specs.Hosts.{AreDistinct, all_names}
-use Rattle.broker_core.proofs.Naming.{distinct_names}
-use Rattle.broker_core.proofs.Places.{apart_from, distinct_front, not_both, one_in_front, one_in_rest}
+use Rattle.broker_hosts.specs.Hosts.{AreDistinct, all_names}
+use Rattle.broker_hosts.proofs.Naming.{distinct_names}
+use Rattle.broker_hosts.proofs.Places.{apart_from, distinct_front, not_both, one_in_front, one_in_rest}
 use Rattle.tape_run.specs.Recordings.{Entry, IsHistory, Standing, ends_between, shard_called}
 use Rattle.tape_run.proofs.Moving.{call_stays, changed}
 use Rattle.tape_run.proofs.Pieces.{IsOf}

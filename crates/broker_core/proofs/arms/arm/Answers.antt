@@ -2,9 +2,10 @@ use Rattle.std.proofs.Common.{◌≡◌, ◌<◌, refl, subst, length, get_or, s
 use Rattle.edge_io.specs.Names.{hosted_name}
 use Rattle.broker_model.specs.Hosted.{HoldsAt, part_disks}
 use Rattle.broker_model.proofs.Lists.{changes_so}
-use Rattle.broker_core.specs.declared.slot.PartSlot.{PartSlot}
-use Rattle.broker_core.specs.Hosts.{ArmsSlot, IsOpenState, NotIn, hosted_slots, parts_of}
-use Rattle.broker_core.proofs.Places.{all_at, changes_set, holds_within}
+use Rattle.broker_hosts.specs.declared.slot.PartSlot.{PartSlot}
+use Rattle.broker_core.specs.Calls.{ArmsSlot}
+use Rattle.broker_hosts.specs.Hosts.{IsOpenState, NotIn, hosted_slots, parts_of}
+use Rattle.broker_hosts.proofs.Places.{all_at, changes_set, holds_within}
 use Rattle.broker_core.proofs.Arming.{arms_state, arms_state_stays, part_is_armed, turned_arms}
 use Rattle.broker_core.proofs.Calling.{Turned, turned_stays}
 use Rattle.broker_core.proofs.arms.arm.Goals as goal

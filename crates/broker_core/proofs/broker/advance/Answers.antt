@@ -3,7 +3,7 @@ use Rattle.session_script.specs.declared.event.Event.TheVariants.{Open, Bytes, C
 use Rattle.conn_core.specs.Conns.{conn_after_bytes}
 use Rattle.broker_model.specs.Machine.{at_connection}
 use Rattle.broker_core.specs.Causes.{no_memory}
-use Rattle.broker_core.specs.Hosts.{disks_in, parts_of}
+use Rattle.broker_hosts.specs.Hosts.{disks_in, parts_of}
 use Rattle.broker_core.specs.Cores.{core_of}
 use Rattle.broker_core.proofs.Leading.{go_on_same}
 use Rattle.broker_core.proofs.Events.{opens, sends, closes, steps, expires, ticks, arms_one, restarts, stops_still, stops_step, stops_expire, advances_at, memory_stops, power_stops, open_held, moment_at}

@@ -1,9 +1,9 @@
 use Rattle.std.proofs.Common.{◌≡◌, ◌<◌, inr, length, get_or, rules}
 use Rattle.broker_shards.specs.Acts.{asked_by}
 use Rattle.broker_shards.specs.Acts.PartDeed.{Calls}
-use Rattle.broker_core.specs.Hosts.{HaltsSlot, LeadsSlot}
+use Rattle.broker_core.specs.Calls.{HaltsSlot, LeadsSlot}
 use Rattle.broker_core.proofs.Stepping.{ok_weaker, on_err_weaker}
-use Rattle.broker_core.proofs.Places.{changes_set}
+use Rattle.broker_hosts.proofs.Places.{changes_set}
 use Rattle.broker_core.proofs.calls.act_among.Goals as goal
 
 pub returns-clause-ok : goal.returns-clause-ok

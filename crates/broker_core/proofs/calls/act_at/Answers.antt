@@ -1,10 +1,11 @@
 use Rattle.std.proofs.Common.{◌≡◌}
 use Rattle.broker_shards.specs.Acts.{asked_by}
 use Rattle.broker_shards.specs.Acts.PartDeed.{Calls}
-use Rattle.broker_core.specs.Hosts.{LeadsSlot, parts_of}
+use Rattle.broker_core.specs.Calls.{LeadsSlot}
+use Rattle.broker_hosts.specs.Hosts.{parts_of}
 use Rattle.broker_core.proofs.Calling.{act_turns, may_stay, part_halts, part_leads}
 use Rattle.broker_core.proofs.Parting.{call_fits}
-use Rattle.broker_core.proofs.Places.{changes_within}
+use Rattle.broker_hosts.proofs.Places.{changes_within}
 use Rattle.broker_core.proofs.Stepping.{ok_gives, ok_weaker, on_err_weaker}
 use Rattle.broker_core.proofs.calls.act_at.Goals as goal
 

@@ -2,7 +2,7 @@ use Rattle.std.proofs.Common.{◌≡◌, false}
 use Rattle.broker_shards.specs.Acts.{asked_by}
 use Rattle.broker_shards.specs.Acts.PartDeed.{Calls}
 use Rattle.broker_core.proofs.Parting.{act_leads, act_refused, act_whole, done, slot_halts, slot_leads}
-use Rattle.broker_core.proofs.Reopens.{fed_three}
+use Rattle.broker_hosts.proofs.OpeningParts.{fed_three}
 use Rattle.broker_core.proofs.Stepping.{on_err}
 use Rattle.broker_core.proofs.calls.act_in.Goals as goal
 

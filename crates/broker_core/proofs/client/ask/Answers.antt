@@ -2,7 +2,8 @@ use Rattle.std.proofs.Common.{refl, ap, ◌∙◌, ◌++◌}
 use Rattle.conn_core.specs.Conns.{without_replies}
 use Rattle.conn_core.specs.Turning.{conn_after_answer}
 use Rattle.broker_model.specs.Steps.{replies_to}
-use Rattle.broker_core.specs.Hosts.{counts_in, disks_in, ends_over, faults_in, faults_of_visit, parts_of}
+use Rattle.broker_core.specs.Calls.{counts_in, ends_over, faults_in, faults_of_visit}
+use Rattle.broker_hosts.specs.Hosts.{disks_in, parts_of}
 use Rattle.broker_core.proofs.Clients.{part_done, step_told}
 use Rattle.broker_core.proofs.Stepping.{on_err}
 use Rattle.broker_core.proofs.Leading.{halts_so, leads_halts, leads_to}

@@ -1,6 +1,7 @@
 use Rattle.std.proofs.Common.{ap, ◌∙◌, ◌++◌}
 use Rattle.broker_model.specs.Steps.{replies_to}
-use Rattle.broker_core.specs.Hosts.{disks_in, ends_over, parts_of, counts_in}
+use Rattle.broker_hosts.specs.Hosts.{disks_in, parts_of}
+use Rattle.broker_core.specs.Calls.{ends_over, counts_in}
 use Rattle.broker_core.proofs.Stepping.{ok_weaker, on_err, on_err_weaker}
 use Rattle.broker_core.proofs.Clients.{asks_next, replies_told}
 use Rattle.broker_core.proofs.Leading.{halts_so, halts_still, leads_to, stays_same}

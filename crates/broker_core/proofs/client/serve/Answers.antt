@@ -3,7 +3,8 @@ use Rattle.std.specs.Map.{set_value, remove_entry}
 use Rattle.conn_core.specs.Conns.{is_gone}
 use Rattle.broker_model.specs.Machine.{named, conn_at, left}
 use Rattle.broker_model.specs.Steps.{Serves}
-use Rattle.broker_core.specs.Hosts.{counts_in, disks_in, ends_over, parts_of}
+use Rattle.broker_core.specs.Calls.{counts_in, ends_over}
+use Rattle.broker_hosts.specs.Hosts.{disks_in, parts_of}
 use Rattle.broker_core.proofs.Stepping.{on_err, left_at}
 use Rattle.broker_core.proofs.Leading.{halts_so, leads_to, stays_same}
 use Rattle.broker_core.proofs.client.serve.Goals as goal

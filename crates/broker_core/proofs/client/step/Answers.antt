@@ -1,5 +1,6 @@
 use Rattle.conn_core.specs.Turning.{turn}
-use Rattle.broker_core.specs.Hosts.{disks_in, ends_over, parts_of, counts_in}
+use Rattle.broker_hosts.specs.Hosts.{disks_in, parts_of}
+use Rattle.broker_core.specs.Calls.{ends_over, counts_in}
 use Rattle.broker_core.proofs.Stepping.{on_err}
 use Rattle.broker_core.proofs.Clients.{does_turn}
 use Rattle.broker_core.proofs.Leading.{halts_so, halts_still, leads_to, stays_same}

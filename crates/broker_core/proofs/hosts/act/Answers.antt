@@ -1,7 +1,8 @@
 use Rattle.std.proofs.Common.{◌≡◌, ap, false, length}
 use Rattle.share_members.specs.Groups.{Memberships}
-use Rattle.broker_core.specs.Hosts.{parts_of}
-use Rattle.broker_core.proofs.Leading.{beats, fed_both, foreign_leads, foreign_refused, foreign_stays, foreign_whole, members_beat, members_halt, members_stay}
+use Rattle.broker_hosts.specs.Hosts.{parts_of}
+use Rattle.broker_core.proofs.Leading.{beats, foreign_leads, foreign_refused, foreign_stays, foreign_whole, members_beat, members_halt, members_stay}
+use Rattle.broker_hosts.proofs.Opening.{fed_both}
 use Rattle.broker_core.proofs.Parting.{there_of}
 use Rattle.broker_core.proofs.Stepping.{ok_weaker, on_err, on_err_weaker, on_ok}
 use Rattle.broker_core.proofs.hosts.act.Goals as goal

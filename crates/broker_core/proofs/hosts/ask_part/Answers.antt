@@ -1,6 +1,6 @@
 use Rattle.std.proofs.Common.{◌∙◌, sym}
 use Rattle.broker_model.specs.Shards.ShardCall.{CallPart}
-use Rattle.broker_core.specs.Hosts.{parts_of}
+use Rattle.broker_hosts.specs.Hosts.{parts_of}
 use Rattle.broker_core.proofs.Leading.{halts_so, leads_to}
 use Rattle.broker_core.proofs.Parting.{answers_part, some_answer}
 use Rattle.broker_core.proofs.Stepping.{on_err}

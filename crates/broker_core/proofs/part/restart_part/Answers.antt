@@ -1,8 +1,8 @@
 use Rattle.std.proofs.Common.{◌≡◌}
-use Rattle.broker_core.specs.declared.fault.CoreOpen.TheVariants.{NoMemory}
-use Rattle.broker_core.specs.Carried.{IsPartCarried}
-use Rattle.broker_core.specs.Hosts.{PartStandsAlone}
-use Rattle.broker_core.proofs.Opening.{flip}
+use Rattle.broker_hosts.specs.declared.fault.CoreOpen.TheVariants.{NoMemory}
+use Rattle.broker_hosts.specs.Carried.{IsPartCarried}
+use Rattle.broker_hosts.specs.Hosts.{PartStandsAlone}
+use Rattle.broker_core.proofs.Restarting.{flip}
 use Rattle.broker_core.proofs.Reopens.{goes_same, goes_still, images_behind, images_within, lost_still, part_stays_shut, restarted_part, stands_within, told_at, told_same, within_on, within_same}
 use Rattle.broker_core.proofs.Stepping.{match_err, match_weaker, ok_weaker}
 use Rattle.broker_core.proofs.part.restart_part.Goals as goal

@@ -1,6 +1,6 @@
 use Rattle.std.proofs.Common.{◌≡◌, refl, sym, ◌∙◌, rules}
-use Rattle.broker_core.specs.declared.slot.PartState.TheVariants.{Open}
-use Rattle.broker_core.specs.declared.fault.CoreOpen.TheVariants.{Device}
+use Rattle.broker_hosts.specs.declared.slot.PartState.TheVariants.{Open}
+use Rattle.broker_hosts.specs.declared.fault.CoreOpen.TheVariants.{Device}
 use Rattle.broker_core.proofs.power.lose_part.Goals as goal
 
 pub returns-in-Ok-clause-ok : goal.returns-in-Ok-clause-ok

@@ -1,9 +1,9 @@
 use Rattle.std.proofs.Common.{◌≡◌, ◌<◌, ◌+◌, subst, arith, suc, length, get_or, set, Err, rules}
 use Rattle.edge_io.specs.Names.{IsTopicName}
-use Rattle.broker_core.specs.Hosts.{IsOpenState}
+use Rattle.broker_hosts.specs.Hosts.{IsOpenState}
 use Rattle.broker_core.specs.Restarts.{ReopensSlot, StopsAt}
-use Rattle.broker_core.proofs.Stepping.{err_at}
-use Rattle.broker_core.proofs.Places.{DoneTo, done_all, done_at, done_on}
+use Rattle.broker_hosts.proofs.Taking.{err_at}
+use Rattle.broker_hosts.proofs.Places.{DoneTo, done_all, done_at, done_on}
 use Rattle.broker_core.proofs.Losing.{done_stops, slots_named}
 use Rattle.broker_core.proofs.power.lose_parts.Goals as goal
 

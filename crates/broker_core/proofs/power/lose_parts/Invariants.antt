@@ -1,6 +1,6 @@
 use Rattle.std.proofs.Common.{◌-◌, length}
 use Rattle.broker_core.specs.Restarts.{ReopensSlot}
-use Rattle.broker_core.proofs.Places.{DoneTo}
+use Rattle.broker_hosts.proofs.Places.{DoneTo}
 use Rattle.broker_core.proofs.power.lose_parts.Given as goal
 
 abbrev pub invariant-parts : goal.invariant-parts

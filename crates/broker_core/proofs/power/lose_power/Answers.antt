@@ -2,10 +2,10 @@ use Rattle.std.proofs.Common.{◌≡◌, inl, refl, sym, ap, ◌∙◌, subst, E
 use Rattle.share_members.specs.Groups.{Memberships}
 use Rattle.broker_model.specs.Machine.{no_members}
 use Rattle.broker_core.specs.declared.fault.CoreFault.TheVariants.{NoMemory, Reopen}
-use Rattle.broker_core.specs.declared.fault.CoreOpen.TheVariants.{Device}
-use Rattle.broker_core.specs.Hosts.{AreCarried, IsHeld, IsOpen, disks_in, parts_of}
+use Rattle.broker_hosts.specs.declared.fault.CoreOpen.TheVariants.{Device}
+use Rattle.broker_hosts.specs.Hosts.{AreCarried, IsHeld, IsOpen, disks_in, parts_of}
 use Rattle.broker_core.proofs.Leading.{go_on_same}
-use Rattle.broker_core.proofs.Stepping.{err_at, err_same}
+use Rattle.broker_hosts.proofs.Taking.{err_at, err_same}
 use Rattle.broker_core.proofs.Losing.{Stopped, all_on, all_reopened, held_of_open, held_open_foreign, hosted_stay, hosted_stopped, none_stopped, opened_held, opened_open, parts_stopped, parts_stopped_on, state_stopped, state_stopped_on, stopped_held, stopped_never, stopped_rose}
 use Rattle.broker_core.proofs.power.lose_power.Goals as goal
 

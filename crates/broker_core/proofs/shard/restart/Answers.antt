@@ -1,8 +1,8 @@
 use Rattle.std.proofs.Common.{◌≡◌, ◌∙◌, ap, is_some, IsErr, rules}
 use Rattle.broker_core.proofs.Stepping.{match_err, match_weaker, ok_weaker}
-use Rattle.broker_core.proofs.Opening.{images_behind, images_within, lost_of, loss_refused, within_still, told_on, not_lost, stays_shut, restarted, flip, told_first, told_second}
-use Rattle.broker_core.specs.declared.fault.CoreOpen.TheVariants.{NoMemory}
-use Rattle.broker_core.specs.Carried.{IsCarried}
+use Rattle.broker_core.proofs.Restarting.{images_behind, images_within, lost_of, loss_refused, within_still, told_on, not_lost, stays_shut, restarted, flip, told_first, told_second}
+use Rattle.broker_hosts.specs.declared.fault.CoreOpen.TheVariants.{NoMemory}
+use Rattle.broker_hosts.specs.Carried.{IsCarried}
 use Rattle.broker_core.specs.Restarts.{IsNotRestarted}
 use Rattle.broker_core.proofs.shard.restart.Goals as goal
 
@@ -47,7 +47,7 @@ returns-in-Err-power_loss-clause-err g c = λ s k.
     ))
 
 pub returns-clause-ok : goal.returns-clause-ok
-returns-clause-ok g c = ok_weaker _ _ c.open.result
+returns-clause-ok g c = ok_weaker _ _ c.open_foreign.result
     (λ new opens s k.
     let first = lost_of g.D.Disk.seen
     c.args.choice c.args.shard.journal.first.disk c.into_disks-first.result.0 c.power_loss.new.self c.into_disks-first.ensures.0 k.told
@@ -58,11 +58,11 @@ returns-clause-ok g c = ok_weaker _ _ c.open.result
     restarted g.D.Disk.seen
     c.args.choice c.args.shard s c.power_loss.new.self c.power_loss-2.new.self first.0 second.0 new k first.1 second.1
     (opens first.0 second.0 first.1.is second.1.is))
-    c.open.ensures.opens
+    c.open_foreign.ensures.opens
 
 pub returns-clause-err : goal.returns-clause-err
 returns-clause-err g c = flip (IsCarried g.D.Disk.seen c.args.shard)
-    (λ e s. IsNotRestarted g.D.Disk.seen s e.0 e.1 × (e.2 ≡ NoMemory)) c.open.result
+    (λ e s. IsNotRestarted g.D.Disk.seen s e.0 e.1 × (e.2 ≡ NoMemory)) c.open_foreign.result
     (λ s k.
     let first = lost_of g.D.Disk.seen
     c.args.choice c.args.shard.journal.first.disk c.into_disks-first.result.0 c.power_loss.new.self c.into_disks-first.ensures.0 k.told
@@ -71,10 +71,10 @@ returns-clause-err g c = flip (IsCarried g.D.Disk.seen c.args.shard)
     c.args.choice c.args.shard.journal.second.disk c.into_disks-first.result.1 c.power_loss-2.new.self c.into_disks-first.ensures.1 k.second_told
     c.in_default-power_loss.ensures.loses c.power_loss-2.ensures.told c.power_loss-2.ensures.arms c.in_default-power_loss.ensures.quiet in
     stays_shut g.D.Disk.seen
-    c.args.choice c.args.shard s c.power_loss.new.self c.power_loss-2.new.self c.open.result k (first.0, first.1) (second.0, second.1)
-    (match_err _ _ c.open.result c.open.ensures.images) c.open.ensures.recovers c.open.ensures.sound c.open.ensures.no_bay
-    (told_first g.D.Disk.seen c.power_loss.new.self c.open.result c.open.ensures.first)
-    (told_second g.D.Disk.seen c.power_loss-2.new.self c.open.result c.open.ensures.second))
+    c.args.choice c.args.shard s c.power_loss.new.self c.power_loss-2.new.self c.open_foreign.result k (first.0, first.1) (second.0, second.1)
+    (match_err _ _ c.open_foreign.result c.open_foreign.ensures.images) c.open_foreign.ensures.recovers c.open_foreign.ensures.sound c.open_foreign.ensures.no_bay
+    (told_first g.D.Disk.seen c.power_loss.new.self c.open_foreign.result c.open_foreign.ensures.first)
+    (told_second g.D.Disk.seen c.power_loss-2.new.self c.open_foreign.result c.open_foreign.ensures.second))
 
 pub returns-in-Err-clause-images : goal.returns-in-Err-clause-images
 returns-in-Err-clause-images g c = images_within g.D.Disk.seen
@@ -98,9 +98,9 @@ returns-clause-images g c =
     c.args.shard.journal.first.disk c.into_disks-first.result.0 c.power_loss.new.self c.into_disks-first.ensures.0 c.power_loss.ensures.images) in
     let on_second = (within_still g.D.Disk.seen
     c.args.shard.journal.second.disk c.into_disks-first.result.1 c.power_loss-2.new.self c.into_disks-first.ensures.1 c.power_loss-2.ensures.images) in
-    match_weaker _ _ _ _ c.open.result
+    match_weaker _ _ _ _ c.open_foreign.result
     (λ new. images_behind g.D.Disk.seen
     c.args.shard.journal.first.disk c.args.shard.journal.second.disk c.power_loss.new.self c.power_loss-2.new.self new.journal.first.disk new.journal.second.disk on_first on_second)
     (λ e. images_behind g.D.Disk.seen
     c.args.shard.journal.first.disk c.args.shard.journal.second.disk c.power_loss.new.self c.power_loss-2.new.self e.0 e.1 on_first on_second)
-    c.open.ensures.images
+    c.open_foreign.ensures.images

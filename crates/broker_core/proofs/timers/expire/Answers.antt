@@ -1,6 +1,7 @@
 use Rattle.std.proofs.Common.{◌≡◌, Some, None, rules}
 use Rattle.topic_conf.specs.Topics.{shard_named}
-use Rattle.broker_core.specs.Hosts.{counts_in, disks_in, ends_over, parts_of}
+use Rattle.broker_core.specs.Calls.{counts_in, ends_over}
+use Rattle.broker_hosts.specs.Hosts.{disks_in, parts_of}
 use Rattle.broker_core.proofs.Clients.{expired_at, none_told, not_expired}
 use Rattle.broker_core.proofs.Leading.{halts_so, leads_to, stays, stays_same}
 use Rattle.broker_core.proofs.Stepping.{ok_weaker, on_err_weaker}

@@ -2,8 +2,9 @@ use Rattle.std.proofs.Common.{subst}
 use Rattle.broker_model.specs.Shards.{PartCall}
 use Rattle.broker_shards.specs.declared.part.PartAsk.TheVariants as asks
 use Rattle.broker_shards.specs.declared.part.PartTold.{PartTold}
-use Rattle.broker_core.specs.Carried.{IsCall}
-use Rattle.broker_core.specs.Hosts.{DidPart, LeadsBy, parts_of}
+use Rattle.broker_core.specs.PartCalls.{IsCall}
+use Rattle.broker_core.specs.Calls.{DidPart, LeadsBy}
+use Rattle.broker_hosts.specs.Hosts.{parts_of}
 use Rattle.broker_core.proofs.Leading.{halts_so}
 use Rattle.broker_core.proofs.Parting.{expiry_done, expiry_tells}
 use Rattle.broker_core.proofs.Stepping.{on_err}

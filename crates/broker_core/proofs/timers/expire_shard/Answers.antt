@@ -1,6 +1,6 @@
 use Rattle.std.proofs.Common.{refl, ◌∙◌, length}
 use Rattle.broker_model.specs.Shards.{fault_of_expiry}
-use Rattle.broker_core.specs.Hosts.{parts_of}
+use Rattle.broker_hosts.specs.Hosts.{parts_of}
 use Rattle.broker_core.proofs.Leading.{halts_so, leads_halts, leads_to}
 use Rattle.broker_core.proofs.Stepping.{ok_weaker, on_err}
 use Rattle.broker_core.proofs.Telling.{expiries_told}

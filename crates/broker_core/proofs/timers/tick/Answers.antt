@@ -1,7 +1,7 @@
 use Rattle.std.proofs.Common.{ap}
 use Rattle.share_members.specs.Groups.{Memberships}
 use Rattle.broker_model.specs.Shards.MembersCall.{Ticks}
-use Rattle.broker_core.specs.Hosts.{parts_of}
+use Rattle.broker_hosts.specs.Hosts.{parts_of}
 use Rattle.broker_core.proofs.Leading.{members_lead, members_stay, ticks}
 use Rattle.broker_core.proofs.timers.tick.Goals as goal
 

@@ -2,9 +2,9 @@ use Rattle.std.proofs.Common.{◌≡◌, ◌∷◌, [], List, subst, sym, ap, �
 use Rattle.std.specs.List.{AllByRecursion, AllZip}
 use Rattle.shard_lock.specs.Passes.{LockParts, PassParts, passes_of}
 use Rattle.broker_model.specs.Hosted.{Hosted, IsOneOf, part_disks, state_a, state_b}
-use Rattle.broker_core.specs.Hosts.{AreDistinct, AreNamed}
-use Rattle.broker_core.proofs.Places.{one_in_front}
-use Rattle.broker_core.proofs.Starting.{parts_distinct}
+use Rattle.broker_hosts.specs.Hosts.{AreDistinct, AreNamed}
+use Rattle.broker_hosts.proofs.Places.{one_in_front}
+use Rattle.broker_hosts.proofs.Starting.{parts_distinct}
 use Rattle.broker_shards.specs.Acts.{ActsForeign, ActsMembers, ActsPart}
 use Rattle.broker_shards.specs.Hosts.{Host}
 use Rattle.broker_shards.specs.declared.foreign.ForeignEvent.{ForeignEvent}

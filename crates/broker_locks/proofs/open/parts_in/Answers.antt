@@ -1,7 +1,7 @@
 use Rattle.std.proofs.Common.{rules, ◌≡◌, ◌∷◌, ◌++◌, [], List, length, map, subst, sym, ap, ◌∙◌, append_assoc, arith}
 use Rattle.std.proofs.lemmas.List.{nil_from_length, append-nil}
-use Rattle.broker_core.specs.Hosts.{AreOpenParts, IsOpenState}
-use Rattle.broker_core.specs.declared.slot.PartSlot.{PartSlot}
+use Rattle.broker_hosts.specs.Hosts.{AreOpenParts, IsOpenState}
+use Rattle.broker_hosts.specs.declared.slot.PartSlot.{PartSlot}
 use Rattle.broker_shards.specs.Hosts.{Host}
 use Rattle.broker_locks.specs.Opening.{slot_of}
 use Rattle.broker_locks.proofs.Lines.{all_rest, map_snoc}

@@ -1,8 +1,8 @@
 use Rattle.std.proofs.Common.{◌≡◌, inl, inr, ⊎_elim, refl, ap, ◌∙◌, Err, subst}
 use Rattle.topic_conf.specs.Configs.{ConfigParts}
 use Rattle.broker_model.specs.Hosted.{IsTaken}
-use Rattle.broker_core.specs.declared.fault.CoreOpen.{CoreOpen}
-use Rattle.broker_core.specs.Hosts.{disks_in}
+use Rattle.broker_hosts.specs.declared.fault.CoreOpen.{CoreOpen}
+use Rattle.broker_hosts.specs.Hosts.{disks_in}
 use Rattle.broker_core.proofs.Leading.{go_on_same, still_all}
 use Rattle.share_top.specs.declared.status.Status.TheVariants.{Device}
 use Rattle.share_top.specs.Changes.{bay_change, output_change}

@@ -1,7 +1,7 @@
 use Rattle.std.proofs.Common.{◌≡◌, [], length}
 use Rattle.std.specs.List.{flat_map}
 use Rattle.text_pieces.proofs.Going.{IsSoFar}
-use Rattle.broker_core.specs.Hosts.{AreOpenParts}
+use Rattle.broker_hosts.specs.Hosts.{AreOpenParts}
 use Rattle.share_top.specs.Slots.{slot_text}
 use Rattle.share_top.proofs.dump.write_parts.Given as goal
 

@@ -1,5 +1,5 @@
 use Rattle.std.proofs.Common.{◌∷◌, ◌++◌, [], codes}
-use Rattle.broker_core.specs.Hosts.{states_at}
+use Rattle.broker_hosts.specs.Hosts.{states_at}
 use Rattle.share_top.specs.Dumping.{foreign_texts}
 use Rattle.share_top.proofs.Dumps.{both, first_failed}
 use Rattle.share_top.proofs.dump.write_rest.Goals as goal

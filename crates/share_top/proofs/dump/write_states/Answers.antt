@@ -1,6 +1,6 @@
 use Rattle.std.proofs.Common.{◌∷◌, ◌++◌, [], codes}
 use Rattle.std.specs.List.{flat_map}
-use Rattle.broker_core.specs.Hosts.{states_at}
+use Rattle.broker_hosts.specs.Hosts.{states_at}
 use Rattle.share_top.specs.Dumping.{foreign_texts}
 use Rattle.share_top.specs.Slots.{slot_text}
 use Rattle.share_top.proofs.Dumps.{both, first_failed}

@@ -1,6 +1,7 @@
 use Rattle.std.proofs.Common.{◌≢◌, ℕ, Bool, List, ◌++◌, refl, ap, ◌∙◌, subst}
 use Rattle.edge_io.specs.Causes.{Rose}
-use Rattle.broker_core.specs.Hosts.{OneRose, disks_in}
+use Rattle.broker_core.specs.Calls.{OneRose}
+use Rattle.broker_hosts.specs.Hosts.{disks_in}
 use Rattle.session_script.specs.Telling.{Tells, TellsFront, TellsPart, is_summary, last_line, told_so_far}
 use Rattle.session_script.proofs.Tellings.{in_all, part_of}
 use Rattle.share_top.specs.declared.replay.Stopped.TheVariants as stopped

@@ -1,9 +1,10 @@
 use Rattle.std.proofs.Common.{◌≡◌, true, false, inl, inr, ⊎_elim, refl, ap, ◌∙◌, Err, sym, subst, ℕ, List, [], ◌∷◌, ◌++◌}
-use Rattle.broker_core.specs.declared.fault.CoreOpen.{CoreOpen}
+use Rattle.broker_hosts.specs.declared.fault.CoreOpen.{CoreOpen}
 use Rattle.topic_conf.specs.Configs.{ConfigParts}
 use Rattle.broker_model.specs.Hosted.{IsOneOf, IsTaken, state_a, state_b}
-use Rattle.broker_core.specs.Hosts.{OneRose, disks_in}
-use Rattle.broker_core.specs.Bays.{AreOut}
+use Rattle.broker_core.specs.Calls.{OneRose}
+use Rattle.broker_hosts.specs.Hosts.{disks_in}
+use Rattle.broker_hosts.specs.Bays.{AreOut}
 use Rattle.edge_io.specs.Views.{BayView}
 use Rattle.share_top.specs.Sessions.{CountRose}
 use Rattle.share_top.proofs.Apart.{slot_then}

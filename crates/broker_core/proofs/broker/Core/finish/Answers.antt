@@ -2,10 +2,10 @@ use Rattle.std.proofs.Common.{◌≡◌, ℕ, List, true, false, sym, subst}
 use Rattle.edge_io.specs.Bays.{SameSlot}
 use Rattle.edge_io.specs.Causes.{Rose}
 use Rattle.broker_model.specs.Hosted.{IsOneOf, IsTaken}
-use Rattle.broker_core.specs.Bays.{ArePutBack, AreOut, HasRisen}
+use Rattle.broker_hosts.specs.Bays.{ArePutBack, AreOut, HasRisen}
 use Rattle.broker_core.specs.Cores.{CoreParts}
-use Rattle.broker_core.specs.Hosts.{all_names, disks_in, hosted_slots, parts_of}
-use Rattle.broker_core.proofs.Starting.{all_back, all_in, all_rise, back_moves, back_noted, names_in, others_same}
+use Rattle.broker_hosts.specs.Hosts.{all_names, disks_in, hosted_slots, parts_of}
+use Rattle.broker_hosts.proofs.Starting.{all_back, all_in, all_rise, back_moves, back_noted, names_in, others_same}
 use Rattle.broker_core.proofs.broker.Core.finish.Goals as goal
 
 pub put_hosts_back-requires-clause-out : goal.put_hosts_back-requires-clause-out
