@@ -6,10 +6,13 @@
 // | `next MOMENT` | what is to be done: `heartbeat HEX`, `fetch HEX`, `write HEX`, `wait MOMENT` or `done` |
 // | `reply LINK HEX ..` | a frame that came on the link `group` or `data`: `taken`, `stray`, `refused CODE` or `strange PLACE` |
 // | `lost LINK` | the link ended: `ok` |
+// | `wrote` | the lines that were handed out are written: `ok`, or `no lines` |
+// | `unacknowledged` | whether all records are written, and the link was lost before they were known to be acknowledged: `yes` or `no` |
 use crate::heard::{fault_text, is_frame};
 use crate::plain::{hex_text, word};
+use crate::standing::Standing;
 use row_text::bytes_of;
-use share_client::{ClientConf, ClientCore, ClientStep, LinkKind, Took};
+use share_client::{ClientConf, ClientStep, LinkKind, Took};
 use share_model::{Blob, Name};
 use std::alloc::Global;
 use std::{io, mem};
@@ -20,7 +23,7 @@ const END_OF_TIME: u64 = 1 << 62;
 #[derive(Drop)]
 pub enum Consumers {
     None,
-    One(ClientCore),
+    One(Standing),
 }
 
 /// The words of a consumer.
@@ -59,7 +62,7 @@ fn link_of(name: &str) -> LinkKind {
     }
 }
 
-fn next(alloc: Global, core: &mut ClientCore, moment: &str) -> io::Result<String> {
+fn next(alloc: Global, core: &mut Standing, moment: &str) -> io::Result<String> {
     let moment: u64 = moment.parse().unwrap_or(0);
     if moment > END_OF_TIME {
         return word(alloc, "no moment");
@@ -70,7 +73,7 @@ fn next(alloc: Global, core: &mut ClientCore, moment: &str) -> io::Result<String
     }
 }
 
-fn reply(alloc: Global, core: &mut ClientCore, words: &str) -> io::Result<String> {
+fn reply(alloc: Global, core: &mut Standing, words: &str) -> io::Result<String> {
     let (link, digits) = words.split_once(' ').unwrap_or((words, ""));
     let Some(frame) = bytes_of(alloc, digits)? else {
         return word(alloc, "no bytes");
@@ -85,6 +88,16 @@ fn reply(alloc: Global, core: &mut ClientCore, words: &str) -> io::Result<String
     }
 }
 
+fn wrote(alloc: Global, core: &mut Standing) -> io::Result<String> {
+    let told = if core.wrote() { "ok" } else { "no lines" };
+    word(alloc, told)
+}
+
+fn unacknowledged(alloc: Global, core: &Standing) -> io::Result<String> {
+    let told = if core.unacknowledged() { "yes" } else { "no" };
+    word(alloc, told)
+}
+
 impl Consumers {
     /// Puts another consumer in place of this one.
     pub fn set(&mut self, consumers: Consumers) {
@@ -94,7 +107,7 @@ impl Consumers {
     fn begin(&mut self, alloc: Global, words: &str) -> io::Result<String> {
         match conf_of(words) {
             Some(conf) => {
-                self.set(Consumers::One(ClientCore::new(conf)));
+                self.set(Consumers::One(Standing::new(conf)));
                 word(alloc, "ok")
             }
             None => word(alloc, "no words"),
@@ -116,6 +129,8 @@ impl Consumers {
                 core.lost(link_of(words));
                 word(alloc, "ok")
             }
+            "wrote" => wrote(alloc, core),
+            "unacknowledged" => unacknowledged(alloc, core),
             _ => return Ok(None),
         };
         Ok(Some(told?))

@@ -28,6 +28,7 @@ mod plain;
 mod records;
 mod runs;
 mod sessions;
+mod standing;
 mod stores;
 mod streams;
 mod texts;
