@@ -262,11 +262,11 @@ grants_rise spans next left rest (a ∷ others) (inr h) =
       subst (λ (n : ℕ). Rise (n + 1) others) (sym last) (grants_rise spans (h.1 + 1) (h.0 + left - (h.1 + 1)) rest others h.3),
     )
 
-fetched_sound : (left rest : ℕ) (p : LocatedPartition) → IsFetched left p (Ok rest) → ((found : List Batch) × AreStored 0 (content_of p.records) found) × Rise 0 p.acquired_records
+pub fetched_sound : (left rest : ℕ) (p : LocatedPartition) → IsFetched left p (Ok rest) → ((found : List Batch) × AreStored 0 (content_of p.records) found) × Rise 0 p.acquired_records
 fetched_sound left rest p (inl h) = absurd cc
 fetched_sound left rest p (inr h) = ((h.0, h.1), grants_rise (map (λ b. span_of b) h.0) 0 left rest p.acquired_records h.2)
 
-abbrev Looked : List Named → ℕ → Entry → List Entry → Type 0
+abbrev pub Looked : List Named → ℕ → Entry → List Entry → Type 0
 Looked named left e others = (StandsIn named (name_of e) × (None ≡ Some e.1.place))
     ⊎ ((StandsIn named (name_of e) → ⊥)
     × (((place : ℕ) × IsFetched left e.1.item (Err place) × (None ≡ Some place))

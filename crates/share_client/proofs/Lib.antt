@@ -2,7 +2,7 @@
 -- read with places is what is read without them. Walking: the batches of a partition, from the first one on. Covering: the offsets that
 -- they cover. Judging: the partitions of a reply, from the first one on. Telling: a reply tells one
 -- thing. Reading: the records of the batches, from the first one on. Promising: what a consumer keeps to over a whole trace. Bounding:
--- how many lines it hands out.
+-- how many lines it hands out. Parting: each offset is acknowledged once in a request.
 pub mod Hearing
 pub mod Standing
 pub mod Locating
@@ -17,3 +17,4 @@ pub mod Recording
 pub mod Delivering
 pub mod Promising
 pub mod Bounding
+pub mod Parting

@@ -1,9 +1,11 @@
 -- What a consumer keeps to over a whole trace. This project's own; the laws of `laws.rt` hold of each trace for which a consumer stands.
 -- For example where the link is lost behind a reply that granted three records, these are written, and no request acknowledges them.
-use Rattle.std.specs.Prelude.{◌≡◌, ◌≤◌, ◌<◌, ◌+◌, ℕ, ℤ, suc, Bool, true, false, List, [], ◌∷◌, ◌++◌, length, Option, Some, None, Result, Ok, Err, if◌then◌else◌}
+use Rattle.std.specs.Prelude.{◌≡◌, ◌≤◌, ◌<◌, ◌+◌, ℕ, ℤ, suc, Bool, true, false, List, [], ◌∷◌, ◌++◌, flat_map, length, map, Option, Some, None, Result, Ok, Err, if◌then◌else◌}
 use Rattle.std.specs.Option.{option_flatten}
+use Rattle.msgs_share.specs.declared.share_topic.AcknowledgementBatch.{AcknowledgementBatch}
 use Rattle.msgs_share.specs.declared.share_topic.SharePartition.{SharePartition}
 use Rattle.msgs_share.specs.declared.share_topic.ShareTopic.{ShareTopic}
+use Rattle.rec_batch.specs.Batches.{at_least_zero}
 use Rattle.share_client.specs.declared.conf.ClientConf.{ClientConf}
 use Rattle.share_client.specs.declared.data_link.DataAsk.{DataAsk}
 use Rattle.share_client.specs.declared.data_link.DataAsk.TheVariants.{Fetching, Leaving}
@@ -17,6 +19,7 @@ use Rattle.share_client.specs.DataLinks.{acknowledged, granted_lines, heard_last
 use Rattle.share_client.specs.Deliveries.{acknowledgements, deliveries}
 use Rattle.share_client.specs.Fetches.{located_in, starts_anew}
 use Rattle.share_client.specs.Frames.{said}
+use Rattle.share_client.specs.Grants.{Named, StandsIn}
 use Rattle.share_client.specs.Kept.{kept}
 use Rattle.share_client.specs.Traces.{Call, Trace, newest}
 use Rattle.share_client.specs.Traces.Call.{Asked, Got, Lost, Wrote}
@@ -112,6 +115,27 @@ IsOf session (Some g) = g.session ≡ session
 -- What stands, and so what a request acknowledges, came in the session that stands.
 abbrev pub StandsInSession : ClientConf → Trace → Type 0
 StandsInSession conf trace = IsOf (sessions conf trace) (standing conf trace)
+
+-- Each batch begins above the last offset of the one before it, and doesn't end before it begins.
+abbrev pub AreAbove : ℕ → List AcknowledgementBatch → Type 0
+AreAbove next [] = Unit {0}
+AreAbove next (b ∷ batches) = (next ≤ at_least_zero b.first_offset) × (at_least_zero b.first_offset ≤ at_least_zero b.last_offset)
+    × AreAbove (at_least_zero b.last_offset + 1) batches
+
+-- what is acknowledged of each partition
+abbrev pub parts_of : ShareTopic SharePartition → List (Named × List AcknowledgementBatch)
+parts_of t = map (λ p. ((t.topic_id, p.partition_index), p.acknowledgement_batches)) t.partitions
+
+-- No partition stands twice, and none is one of those named: so an offset of a partition stands in one batch at most.
+abbrev pub AreApart : List Named → List (Named × List AcknowledgementBatch) → Type 0
+AreApart named [] = Unit {0}
+AreApart named (p ∷ parts) = (StandsIn named p.0 → ⊥) × AreAbove 0 p.1 × AreApart (p.0 ∷ named) parts
+
+-- Each request acknowledges each offset once at most.
+abbrev pub GrantOnce : ClientConf → Trace → Type 0
+GrantOnce conf [] = Unit {0}
+GrantOnce conf (Asked now (Ok (Fetch frame)) ∷ before) = AreApart [] (flat_map parts_of (acknowledged (kept conf before))) × GrantOnce conf before
+GrantOnce conf (call ∷ before) = GrantOnce conf before
 
 -- ---- lines
 

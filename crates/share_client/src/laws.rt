@@ -7,7 +7,7 @@ ghost use Rattle.share_client.specs.declared.fetched.LocatedFetch.{LocatedFetch}
 ghost use Rattle.share_client.specs.Cores.{StandsFor};
 ghost use Rattle.share_client.specs.Fetches.{Tells};
 ghost use Rattle.share_client.specs.Locating.{bare_fetch, located_fetch_at};
-ghost use Rattle.share_client.specs.Promises.{AcknowledgesOnce, AcknowledgesWhatStands, IsBounded, StandsInSession, WritesFirst, WritesWhatWasHanded, WritesWhatWasTaken};
+ghost use Rattle.share_client.specs.Promises.{AcknowledgesOnce, AcknowledgesWhatStands, GrantOnce, IsBounded, StandsInSession, WritesFirst, WritesWhatWasHanded, WritesWhatWasTaken};
 ghost use Rattle.share_client.specs.Rules.{AreAllowed};
 ghost use Rattle.share_client.specs.Traces.{Trace};
 
@@ -34,6 +34,11 @@ pub fn a_request_acknowledges_what_stands()
 /// The grants of each reply are acknowledged once at most.
 pub fn a_reply_is_acknowledged_once()
     ensures { (conf : ClientConf) (core : ClientCore) (trace : Trace) → StandsFor conf core trace → AcknowledgesOnce conf trace }
+{}
+
+/// A granted offset stands in one batch of a request at most.
+pub fn a_request_acknowledges_each_offset_once()
+    ensures { (conf : ClientConf) (core : ClientCore) (trace : Trace) → StandsFor conf core trace → GrantOnce conf trace }
 {}
 
 /// What a request acknowledges was granted in the session that stands: a loss of the link or a new session drops it.
