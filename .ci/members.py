@@ -1,4 +1,5 @@
-"""The program as a server over sockets of the loopback, and the members that speak to it, for `serve.py`."""
+"""The program as a server over sockets of the loopback and as a share consumer, and the members that speak to a server,
+for `serve.py`."""
 
 import os
 import re
@@ -124,10 +125,14 @@ class Member:
         reply = self.connection.call(DELETE_RECORDS, DeleteRecordsRequest(topics, 30000))
         return [(part.error_code, part.low_watermark) for topic in reply.topics for part in topic.partitions]
 
+    def stored(self, group="g"):
+        """What is stored of a group on partition 0."""
+        asked = ReadShareGroupStateRequest(group, [ReadTopic(ORDERS, [ReadPartition(0, 0)])])
+        return self.connection.call(READ_STATE, asked).results[0].partitions[0]
+
     def start(self, group="g"):
         """The start offset that is stored of a group on partition 0, which has no stored records there."""
-        asked = ReadShareGroupStateRequest(group, [ReadTopic(ORDERS, [ReadPartition(0, 0)])])
-        told = self.connection.call(READ_STATE, asked).results[0].partitions[0]
+        told = self.stored(group)
         assert (told.error_code, told.state_batches) == (0, []), told
         return told.start_offset
 
@@ -200,3 +205,30 @@ class Waiting(threading.Thread):
         """Waits for its reply, and gives the records, and how long it took."""
         self.join(PATIENCE)
         return self.records, self.ended - self.begun
+
+
+class Consumer:
+    """The program as a share consumer of the topic `orders`, a member of the group `g`. Its lines are in a file."""
+
+    def __init__(self, folder, port, member, count):
+        self._path = os.path.join(folder, f"{member}.out")
+        words = [PROGRAM, "consume", "--connect", f"127.0.0.1:{port}", "--group", "g", "--member", member,
+                 "--topic", "orders", "--count", str(count)]
+        with open(self._path, "wb") as output:
+            self.process = subprocess.Popen(words, stdin=subprocess.DEVNULL, stdout=output, stderr=subprocess.PIPE,
+                                            text=True)
+
+    def lines(self):
+        """The whole lines that it has written so far."""
+        with open(self._path, encoding="ascii") as output:
+            return output.read().split("\n")[:-1]
+
+    def ended(self):
+        """Waits for the end, and gives the status, the lines, and what it said on standard error."""
+        status = self.process.wait(PATIENCE)
+        return status, self.lines(), self.process.stderr.read()
+
+    def close(self):
+        self.process.kill()
+        self.process.wait(PATIENCE)
+        self.process.stderr.close()

@@ -21,7 +21,7 @@ import threading
 import time
 import unittest
 
-from members import ORDERS, PATIENCE, PROGRAM, Member, Server, Waiting, within
+from members import ORDERS, PATIENCE, PROGRAM, Consumer, Member, Server, Waiting, within
 from sharebroker.connection import check_versions
 from sharebroker.errors import ConnectionLost, NotSent, Unreachable
 
@@ -47,6 +47,11 @@ class ServeCase(unittest.TestCase):
         member = Member(server.port, name)
         self.addCleanup(member.close)
         return member
+
+    def consumer(self, server, name="a", count=1):
+        consumer = Consumer(self.folder, server.port, name, count)
+        self.addCleanup(consumer.close)
+        return consumer
 
     def raw(self, server):
         """A bare socket."""
@@ -415,6 +420,53 @@ class ServeCase(unittest.TestCase):
                 # Each of the two may have stored one batch that wasn't answered.
                 unanswered = set(there) - {offset for _, offset, _ in answered["stored"]}
                 self.assertLessEqual(len(unanswered), 2)
+
+    def test_a_share_consumer_takes_two_records(self):
+        server = self.server()
+        member = self.member(server, "b")
+        self.assertEqual(member.produce(b"a", b"job\n", b"c"), (0, 0))
+        lines = [f"record {ORDERS}/0 0 1 61", f"record {ORDERS}/0 1 1 6a6f620a"]
+        self.assertEqual(self.consumer(server, "a", 2).ended(), (0, lines, ""))
+        self.assertEqual(member.stored().start_offset, 2)
+        self.assertEqual(member.fetch(), [(2, b"c", 1)])
+
+    def test_share_consumers_empty_a_queue_while_the_server_is_killed(self):
+        server = self.server()
+        consumers = [self.consumer(server, name, 20000) for name in "abc"]
+        values = [b"%0100d" % number for number in range(10000)]
+        # Each time records come, and the server is killed as soon as a line of one of them stands.
+        for first, end in ((0, 4000), (4000, 7000)):
+            self.produce_all(server, values, first, end)
+            within(lambda: any(offset >= first for offset, _ in self.written(consumers)), "a line of these records")
+            server.kill()
+            server = self.server(port=server.port)
+        self.produce_all(server, values, 7000, 10000)
+        member = self.member(server, "d")
+        within(lambda: member.stored().start_offset == 10000, "the end of the queue")
+        for consumer in consumers:
+            self.assertEqual(consumer.process.poll(), None)
+            consumer.process.terminate()
+            self.assertEqual(consumer.ended()[::2], (-signal.SIGTERM, ""))
+        self.assertEqual(set(self.written(consumers)), set(enumerate(values)))
+        server.kill()
+        self.assertEqual(self.dumped(), ["table 67 orders/0 start 10000 complete 0", "end"])
+
+    def produce_all(self, server, values, first, end):
+        """Stores these of the values as batches of 500, at the offsets that are their places."""
+        member = self.member(server, "p")
+        for offset in range(first, end, 500):
+            self.assertEqual(member.produce(*values[offset:offset + 500]), (0, offset))
+
+    def written(self, consumers):
+        """The offsets and values of the lines that consumers have written, in no order."""
+        found = []
+        for consumer in consumers:
+            for line in consumer.lines():
+                word, partition, offset, count, value = line.split(" ")
+                self.assertEqual((word, partition), ("record", f"{ORDERS}/0"))
+                self.assertIn(count, ("1", "2", "3"))
+                found.append((int(offset), bytes.fromhex(value)))
+        return found
 
     def test_a_second_program_on_the_folder(self):
         self.server()
