@@ -1,3 +1,5 @@
 pub mod Offsets
 pub mod Filled
 pub mod OffsetsTold
+pub mod Groups
+pub mod Members

@@ -6,9 +6,15 @@
 
 mod hosted;
 mod law;
+mod looks;
+mod members;
 mod offsets;
+mod summary;
 
 pub use law::each_partition_is_told_by_its_own_log;
+pub use looks::{GroupAsk, GroupRow, TableRow, is_there, plan_group, shards_of, table_row};
+pub use members::{GROUP_ID_NOT_FOUND, MembersPlan, members_body, plan_members};
 pub use offsets::{
     End, LogEnds, OffsetAsk, OffsetsPlan, offset_row, offsets_body, plan_offsets,
 };
+pub use summary::{AssignedPartitions, GroupSummary, MemberSummary};

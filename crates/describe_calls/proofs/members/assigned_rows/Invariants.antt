@@ -1,0 +1,10 @@
+use Rattle.std.proofs.Common.{◌≡◌, map, take}
+use Rattle.std.specs.Vec.{vec_len}
+use Rattle.describe_calls.specs.Members.{assigned_row}
+use Rattle.describe_calls.proofs.members.assigned_rows.Given as goal
+
+abbrev pub invariant-loop-one : goal.invariant-loop-one
+invariant-loop-one l = record {
+  rows : l.rows.items ≡ map assigned_row (take l.one-index l.assigned);
+  count : vec_len l.rows ≡ l.one-index;
+}
