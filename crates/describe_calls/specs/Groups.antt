@@ -55,7 +55,7 @@ pub record IsTellableTable (summary : TableSummary) : Type 0 where
   pub lag : summary.lag < 2 ^ 63
 
 abbrev pub table_row : TableSummary → TableRow
-table_row summary = record { start = pos summary.start; lag = pos summary.lag; held = held_told summary }
+table_row summary = record { start = pos summary.start; lag = pos summary.lag; held = Some (held_told summary) }
 
 -- ---- what they tell
 
@@ -74,12 +74,3 @@ row_members (Some (Table table)) = None
 
 abbrev pub members_in : List GroupRow → Option GroupSummary
 members_in rows = row_members (slice_get rows 0)
-
--- how far it has come in the partition of this shard, which a row behind that tells
-abbrev pub row_table : Option GroupRow → Option TableRow
-row_table None = None
-row_table (Some (Members members)) = None
-row_table (Some (Table table)) = table
-
-abbrev pub table_at : List GroupRow → ℕ → Option TableRow
-table_at rows shard = row_table (slice_get rows (shard + 1))

@@ -23,7 +23,7 @@ pub enum GroupAsk {
 pub struct TableRow {
     pub start: i64,
     pub lag: i64,
-    pub held: HeldRecords,
+    pub held: Option<HeldRecords>,
 }
 
 /// What a shard tells of a group.
@@ -69,7 +69,7 @@ pub fn table_row(summary: TableSummary) -> TableRow
     TableRow {
         start: summary.start as i64,
         lag: summary.lag as i64,
-        held: held_told(summary),
+        held: Some(held_told(summary)),
     }
 }
 

@@ -12,7 +12,6 @@ loop-shard-preserved c =
     let shard = c.loop-shard.shard in
     let before = c.args.left.now.items in
     let entry = table_entry c.args.group in
-    c.in_ok-push_back.ensures.items
-    ∙ ap (λ (l : List (Entry GroupAsk GroupRow)). l ++ entry shard ∷ []) c.loop-shard.invariant
-    ∙ append_assoc before (map entry (range_with_len 0 shard)) (entry shard ∷ [])
-    ∙ ap (λ (l : List (Entry GroupAsk GroupRow)). before ++ l) (sym (map-range_with_len_more entry 0 shard shard (omega arith)))
+    rw (c.in_ok-push_back.ensures.items, c.loop-shard.invariant)
+    (append_assoc before (map entry (range_with_len 0 shard)) (entry shard ∷ [])
+    ∙ ap (λ (l : List (Entry GroupAsk GroupRow)). before ++ l) (sym (map-range_with_len_more entry 0 shard shard (omega arith))))
