@@ -27,8 +27,7 @@ use Rattle.describe_calls.specs.declared.looks.GroupAsk.{GroupAsk}
 use Rattle.describe_calls.specs.declared.looks.GroupRow.{GroupRow}
 use Rattle.describe_calls.specs.declared.looks.GroupRow.TheVariants.{Members, Table}
 use Rattle.describe_calls.specs.declared.looks.TableRow.{TableRow}
-use Rattle.describe_calls.specs.Groups.{group_entries, is_there}
-use Rattle.describe_calls.specs.Members.{GROUP_ID_NOT_FOUND, group_shape}
+use Rattle.describe_calls.specs.Groups.{GROUP_ID_NOT_FOUND, group_entries, group_shape, is_there}
 
 -- ---- the plan
 

@@ -6,16 +6,23 @@
 -- table, and is there (layer_rows, `a group without members that has a table is there`).
 use Rattle.std.specs.Prelude.{◌+◌, ◌<◌, ◌^◌, ℕ, ℤ, pos, negsuc, min, Bool, ◌&&◌, false, Option, Some, None, is_some, List, [], ◌∷◌, map, length, nat_le, slice_get, if◌then◌else◌}
 use Rattle.std.specs.List.{list_any, range_with_len}
+use Rattle.share_model.specs.declared.fault.Code.{Code}
+use Rattle.share_model.specs.ErrorCodes.{numbered}
 use Rattle.share_model.specs.declared.table_summary.TableSummary.{TableSummary}
 use Rattle.msgs_admin.specs.declared.held_records.HeldRecords.{HeldRecords}
 use Rattle.call_fold.specs.declared.call.Entry.{Entry}
 use Rattle.call_fold.specs.declared.call.Entry.TheVariants.{Ask}
+use Rattle.log_calls.specs.Shapes.{NamedShapeParts}
 use Rattle.describe_calls.specs.declared.looks.GroupAsk.{GroupAsk}
 use Rattle.describe_calls.specs.declared.looks.GroupAsk.TheVariants.{Members as AskMembers, Table as AskTable}
 use Rattle.describe_calls.specs.declared.looks.GroupRow.{GroupRow}
 use Rattle.describe_calls.specs.declared.looks.GroupRow.TheVariants.{Members, Table}
 use Rattle.describe_calls.specs.declared.looks.TableRow.{TableRow}
 use Rattle.describe_calls.specs.declared.summary.GroupSummary.{GroupSummary}
+
+-- Kafka's code for a group that isn't there
+abbrev pub GROUP_ID_NOT_FOUND : Code
+GROUP_ID_NOT_FOUND = numbered 69
 
 -- ---- the questions
 
@@ -29,9 +36,12 @@ table_entry id shard = Ask (AskTable shard id)
 abbrev pub group_entries : ℕ → List ℕ → List (Entry GroupAsk GroupRow)
 group_entries shards id = if is_group id then Ask (AskMembers id) ∷ map (table_entry id) (range_with_len 0 shards) else []
 
--- how many they are
+-- the group, and how many they are
 abbrev pub group_count : ℕ → List ℕ → ℕ
 group_count shards id = if is_group id then shards + 1 else 0
+
+abbrev pub group_shape : ℕ → List ℕ → NamedShapeParts
+group_shape shards id = record { name = id; count = group_count shards id }
 
 -- ---- the rows
 
@@ -65,12 +75,3 @@ says_there (Table table) = is_some table
 
 abbrev pub is_there : List GroupRow → Bool
 is_there rows = list_any says_there rows
-
--- who is in the group, which the first row tells
-abbrev pub row_members : Option GroupRow → Option GroupSummary
-row_members None = None
-row_members (Some (Members members)) = members
-row_members (Some (Table table)) = None
-
-abbrev pub members_in : List GroupRow → Option GroupSummary
-members_in rows = row_members (slice_get rows 0)

@@ -2,6 +2,6 @@ pub mod Offsets
 pub mod Filled
 pub mod OffsetsTold
 pub mod Groups
-pub mod Members
-pub mod MembersTold
+pub mod GroupsTold
 pub mod GroupOffsets
+pub mod GroupOffsetsTold

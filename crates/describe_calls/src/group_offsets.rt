@@ -5,8 +5,9 @@ ghost use Rattle.describe_calls.specs.Groups.{group_entries};
 ghost use Rattle.describe_calls.specs.GroupOffsets.{all_topics, asked_offsets, asked_topic, come_to, described_offsets, described_partition, described_topic, entries_asked, group_offsets_reply, offsets_by_rows, offsets_of, table_at, whole_partition, whole_topic};
 
 use crate::hosted::{id_named, shard_in};
-use crate::looks::{GroupAsk, GroupRow, TableRow, is_there, plan_group, shards_of};
-use crate::members::GROUP_ID_NOT_FOUND;
+use crate::looks::{
+    GROUP_ID_NOT_FOUND, GroupAsk, GroupRow, TableRow, is_there, plan_group, shards_of,
+};
 use call_fold::{Entry, next_rows};
 use flex_fields::{Bytes, Items, Text};
 use log_calls::NamedShape;
@@ -147,11 +148,7 @@ fn plan_one(
     ensures left { OnOk result (left.new.items ≡ left.old.items ++ entries_asked shards group) }
 {
     let AskedGroup { group_id, topics } = group;
-    let count = plan_group(shards, group_id.as_str(), left)?;
-    let shape = NamedShape {
-        name: group_id,
-        count,
-    };
+    let shape = plan_group(shards, group_id, left)?;
     let topics = match topics {
         None => None,
         Some(topics) => Some(asked_topics(alloc, conf, topics)?),

@@ -1,5 +1,5 @@
 // The laws of the calls, over their definitions.
-ghost use Rattle.describe_calls.specs.MembersTold.{TellsItsGroup};
+ghost use Rattle.describe_calls.specs.GroupOffsetsTold.{TellsItsTable};
 ghost use Rattle.describe_calls.specs.OffsetsTold.{TellsItsEnds};
 
 /// A ListOffsets asks the shard of each hosted partition whose timestamp stands for an end of a log, in order, and its
@@ -9,8 +9,8 @@ pub fn each_partition_is_told_by_its_own_log()
     ensures { TellsItsEnds }
 {}
 
-/// The reply to a ShareGroupDescribe has the groups of the request, in order, each told by the answers to its own
-/// questions.
-pub fn each_group_is_told_by_its_own_shards()
-    ensures { TellsItsGroup }
+/// The reply to a DescribeShareGroupOffsets has the groups of the request, in order, each told by the answers to its own
+/// questions, and each of its partitions by the answer of that partition's shard.
+pub fn each_table_is_told_by_its_own_shard()
+    ensures { TellsItsTable }
 {}

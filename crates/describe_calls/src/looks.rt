@@ -2,14 +2,19 @@
 ghost use Rattle.std.specs.Prelude.{◌≡◌, ◌≤◌, ◌++◌, map, pos, IfOk, OnOk, length};
 ghost use Rattle.std.specs.List.{list_any, range_with_len};
 ghost use Rattle.topic_conf.specs.Topics.{partitions};
-ghost use Rattle.describe_calls.specs.Groups.{IsTellableTable, capped, group_count, group_entries, held_told, is_there, lock_end, says_there, table_entry, table_row};
+ghost use Rattle.describe_calls.specs.Groups.{IsTellableTable, capped, group_entries, group_shape, held_told, is_there, lock_end, says_there, table_entry, table_row};
 
 use crate::summary::GroupSummary;
 use call_fold::Entry;
+use flex_fields::Text;
+use log_calls::NamedShape;
 use msgs_admin::HeldRecords;
-use share_model::{Name, NoMemory, TableSummary};
+use share_model::{Code, Name, NoMemory, TableSummary};
 use std::collections::VecDeque;
 use topic_conf::Config;
+
+/// The code of a group that isn't there.
+pub const GROUP_ID_NOT_FOUND: Code = Code(69);
 
 /// A shard is asked about a group: that of the members, who is in it, and that of a partition, how far it has come.
 #[derive(Clone, Copy)]
@@ -101,23 +106,25 @@ fn plan_tables(
     Ok(())
 }
 
-/// The questions about a group are put behind those that are left. It answers how many they are.
+/// The questions about a group are put behind those that are left. It answers the group with their number.
 pub fn plan_group(
     shards: u32,
-    id: &str,
+    id: Text,
     left: &mut VecDeque<Entry<GroupAsk, GroupRow>>,
-) -> Result<u32, NoMemory>
+) -> Result<NamedShape, NoMemory>
     requires { shards ≤ 64 }
-    ensures count { IfOk result (λ count. count ≡ group_count shards id.now) }
-    ensures few { IfOk result (λ count. count ≤ 65) }
-    ensures left { OnOk result (left.new.items ≡ left.old.items ++ group_entries shards id.now) }
+    ensures shape { IfOk result (λ shape. shape ≡ group_shape shards id) }
+    ensures left { OnOk result (left.new.items ≡ left.old.items ++ group_entries shards id) }
 {
-    let Some(group) = Name::new(id) else {
-        return Ok(0);
+    let Some(group) = Name::new(id.as_str()) else {
+        return Ok(NamedShape { name: id, count: 0 });
     };
     left.push_back(Entry::Ask(GroupAsk::Members { group }))?;
     plan_tables(shards, group, left)?;
-    Ok(shards + 1)
+    Ok(NamedShape {
+        name: id,
+        count: shards + 1,
+    })
 }
 
 // Whether a shard knows the group.

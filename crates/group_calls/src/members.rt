@@ -1,12 +1,14 @@
 // ShareGroupDescribe.
 ghost use Rattle.std.specs.Prelude.{◌≡◌, ◌≤◌, ◌++◌, map, flat_map, take, drop, length, IfOk, OnOk};
 ghost use Rattle.topic_conf.specs.Topics.{partitions};
-ghost use Rattle.describe_calls.specs.Groups.{group_entries};
-ghost use Rattle.describe_calls.specs.Members.{assigned_row, bare_group, described_group, group_shape, groups_by_rows, member_row, members_reply, stable_group};
+ghost use Rattle.describe_calls.specs.Groups.{group_entries, group_shape};
+ghost use Rattle.group_calls.specs.Members.{assigned_row, bare_group, described_group, groups_by_rows, member_row, members_reply, stable_group};
 
-use crate::looks::{GroupAsk, GroupRow, is_there, plan_group, shards_of};
-use crate::summary::{AssignedPartitions, GroupSummary, MemberSummary};
 use call_fold::{Entry, next_rows};
+use describe_calls::{
+    AssignedPartitions, GROUP_ID_NOT_FOUND, GroupAsk, GroupRow, GroupSummary, MemberSummary, is_there,
+    plan_group, shards_of,
+};
 use flex_fields::{Bytes, Items, Text};
 use log_calls::NamedShape;
 use msgs_admin::{
@@ -18,9 +20,6 @@ use std::alloc::Global;
 use std::collections::VecDeque;
 use topic_conf::Config;
 
-/// The code of a group that isn't there.
-pub const GROUP_ID_NOT_FOUND: Code = Code(69);
-
 /// Authorized operations that aren't told.
 const UNTOLD: i32 = -2147483648;
 
@@ -29,20 +28,6 @@ const UNTOLD: i32 = -2147483648;
 pub struct MembersPlan {
     pub shape: Items<NamedShape>,
     pub left: VecDeque<Entry<GroupAsk, GroupRow>>,
-}
-
-// The questions about one group are put behind those that are left.
-fn plan_one(
-    shards: u32,
-    id: Text,
-    left: &mut VecDeque<Entry<GroupAsk, GroupRow>>,
-) -> Result<NamedShape, NoMemory>
-    requires { shards ≤ 64 }
-    ensures shape { IfOk result (λ shape. shape ≡ group_shape shards id) }
-    ensures left { OnOk result (left.new.items ≡ left.old.items ++ group_entries shards id) }
-{
-    let count = plan_group(shards, id.as_str(), left)?;
-    Ok(NamedShape { name: id, count })
 }
 
 /// The plan of a ShareGroupDescribe.
@@ -60,7 +45,7 @@ pub fn plan_members(
     let mut shape = Vec::with_capacity(alloc, ids.len())?;
     let mut left = VecDeque::new(alloc);
     for id in ids {
-        let one = plan_one(shards, id, &mut left)?;
+        let one = plan_group(shards, id, &mut left)?;
         shape.push(one)?;
     }
     Ok(MembersPlan {

@@ -4,23 +4,29 @@
 -- -2147483648 stands for.
 -- For example of `g`, in epoch 3 with one member, and `h`, which nobody knows, the first is Stable with the member, and the second is
 -- Dead with code 69 (layer_rows, `a group with its member, and one that is not there`).
-use Rattle.std.specs.Prelude.{ℕ, ℤ, pos, negsuc, Bool, Option, Some, None, List, [], ◌∷◌, map, codes, take, drop, if◌then◌else◌}
+use Rattle.std.specs.Prelude.{ℕ, ℤ, pos, negsuc, Bool, Option, Some, None, List, [], ◌∷◌, map, codes, take, drop, slice_get, if◌then◌else◌}
 use Rattle.share_model.specs.declared.fault.Code.{Code}
-use Rattle.share_model.specs.ErrorCodes.{NONE, numbered}
+use Rattle.share_model.specs.ErrorCodes.{NONE}
 use Rattle.msgs_admin.specs.declared.group_describe_reply.DescribedGroup.{DescribedGroup}
 use Rattle.msgs_admin.specs.declared.group_describe_reply.GroupMember.{GroupMember}
 use Rattle.msgs_admin.specs.declared.group_describe_reply.MemberTopic.{MemberTopic}
 use Rattle.msgs_admin.specs.GroupDescribeReply.{group_describe_reply}
 use Rattle.log_calls.specs.Shapes.{NamedShapeParts}
 use Rattle.describe_calls.specs.declared.looks.GroupRow.{GroupRow}
+use Rattle.describe_calls.specs.declared.looks.GroupRow.TheVariants.{Members, Table}
 use Rattle.describe_calls.specs.declared.summary.AssignedPartitions.{AssignedPartitions}
 use Rattle.describe_calls.specs.declared.summary.GroupSummary.{GroupSummary}
 use Rattle.describe_calls.specs.declared.summary.MemberSummary.{MemberSummary}
-use Rattle.describe_calls.specs.Groups.{group_count, is_there, members_in}
+use Rattle.describe_calls.specs.Groups.{GROUP_ID_NOT_FOUND, is_there}
 
--- Kafka's code for a group that isn't there
-abbrev pub GROUP_ID_NOT_FOUND : Code
-GROUP_ID_NOT_FOUND = numbered 69
+-- who is in the group, which the first row tells
+abbrev pub row_members : Option GroupRow → Option GroupSummary
+row_members None = None
+row_members (Some (Members members)) = members
+row_members (Some (Table table)) = None
+
+abbrev pub members_in : List GroupRow → Option GroupSummary
+members_in rows = row_members (slice_get rows 0)
 
 -- ---- what the reply says of a group
 
@@ -73,10 +79,6 @@ abbrev pub described_group : List ℕ → List GroupRow → DescribedGroup
 described_group id rows = group_by id (members_in rows) (is_there rows)
 
 -- ---- the reply
-
--- a group of the request, and how many rows it has
-abbrev pub group_shape : ℕ → List ℕ → NamedShapeParts
-group_shape shards id = record { name = id; count = group_count shards id }
 
 -- the groups of the request, in order, each by its own rows
 abbrev pub groups_by_rows : List NamedShapeParts → List GroupRow → List DescribedGroup

@@ -1,7 +1,7 @@
 use Rattle.std.proofs.Common.{◌≡◌, ◌+◌, ◌++◌, length}
 use Rattle.std.specs.Vec.{vec_len}
-use Rattle.describe_calls.specs.Members.{groups_by_rows}
-use Rattle.describe_calls.proofs.members.groups_by_rows.Given as goal
+use Rattle.group_calls.specs.Members.{groups_by_rows}
+use Rattle.group_calls.proofs.members.groups_by_rows.Given as goal
 
 abbrev pub invariant-loop-one : goal.invariant-loop-one
 invariant-loop-one l = record {

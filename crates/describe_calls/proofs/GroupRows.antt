@@ -1,14 +1,12 @@
--- Each group is told by the answers to its own questions.
-use Rattle.std.proofs.Common.{◌≡◌, ◌+◌, ◌∙◌, ℕ, Bool, true, false, List, [], ◌∷◌, ◌++◌, Option, length, take, drop, map, refl, sym, ap, subst, suc, arith}
+-- The rows of a group are as many as its questions, and stand in front of those of the others.
+use Rattle.std.proofs.Common.{◌≡◌, ◌+◌, ℕ, Bool, true, false, List, [], ◌∷◌, ◌++◌, Option, length, take, drop, map, refl, ap, subst, suc, arith}
 use Rattle.std.specs.Bool.{if◌then◌else◌}
-use Rattle.std.specs.List.{flat_map}
 use Rattle.describe_calls.specs.declared.looks.GroupRow.{GroupRow}
 use Rattle.describe_calls.specs.declared.looks.GroupRow.TheVariants.{Members, Table}
 use Rattle.describe_calls.specs.declared.looks.TableRow.{TableRow}
 use Rattle.describe_calls.specs.declared.summary.GroupSummary.{GroupSummary}
 use Rattle.describe_calls.specs.Groups.{is_group, group_count}
-use Rattle.describe_calls.specs.Members.{described_group, group_shape, groups_by_rows}
-use Rattle.describe_calls.specs.MembersTold.{AreAsked, GroupBeside, TellsItsGroup, own_group, rows_in}
+use Rattle.describe_calls.specs.GroupsTold.{GroupBeside, rows_in}
 
 -- the first of two lists, by its length
 pub take_front : {R : Type 0} (n : ℕ) (xs ys : List R) → length xs ≡ n → take n (xs ++ ys) ≡ xs
@@ -36,17 +34,3 @@ rows_length shards false members tables e = refl
 
 pub own_rows : (shards : ℕ) (g : GroupBeside) → length g.tables ≡ shards → length (rows_in g) ≡ group_count shards g.id
 own_rows shards g e = rows_length shards (is_group g.id) g.members g.tables e
-
-says_own : (shards : ℕ) (told : List GroupBeside) → AreAsked shards told →
-    groups_by_rows (map (λ (g : GroupBeside). group_shape shards g.id) told) (flat_map rows_in told) ≡ map own_group told
-says_own shards [] asked = refl
-says_own shards (g ∷ told) asked =
-    let rest = flat_map rows_in told in
-    let shape = map (λ (h : GroupBeside). group_shape shards h.id) told in
-    let n = own_rows shards g asked.0 in
-    ap (λ l. described_group g.id l ∷ groups_by_rows shape (drop (group_count shards g.id) (rows_in g ++ rest))) (take_front (group_count shards g.id) (rows_in g) rest n)
-    ∙ ap (λ l. own_group g ∷ groups_by_rows shape l) (drop_front (group_count shards g.id) (rows_in g) rest n)
-    ∙ ap (λ l. own_group g ∷ l) (says_own shards told asked.1)
-
-pub tells_group : TellsItsGroup
-tells_group = record { says_own = λ shards told asked. says_own shards told asked }
