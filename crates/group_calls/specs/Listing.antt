@@ -4,7 +4,7 @@
 -- type is there.
 -- For example where `b` has members and `a` and `b` have tables, `a` is Empty and `b` is Stable, and with the states filter `stable`
 -- `b` alone is listed (layer_rows, `groups by their ids, and those of one state`).
-use Rattle.std.specs.Prelude.{◌++◌, ℕ, ℤ, pos, Bool, true, false, ◌||◌, ◌&&◌, List, [], ◌∷◌, map, codes, if◌then◌else◌}
+use Rattle.std.specs.Prelude.{◌++◌, ℕ, ℤ, pos, Bool, ◌||◌, ◌&&◌, ◌==◌, length, List, [], ◌∷◌, map, codes, if◌then◌else◌}
 use Rattle.std.specs.List.{list_any, range_with_len}
 use Rattle.std.specs.Ordering.{nat_cmp}
 use Rattle.std.specs.Cmp.Lexicographic.{slice_cmp}
@@ -25,12 +25,11 @@ use Rattle.group_calls.specs.declared.listing.Wanted.{Wanted}
 
 -- ---- what is asked
 
-abbrev pub has_none : List (List ℕ) → Bool
-has_none [] = true
-has_none (text ∷ texts) = false
+abbrev pub has_word : List (List ℕ) → List ℕ → Bool
+has_word filter word = list_any (λ one. str_eq_ignore_ascii_case one word) filter
 
 abbrev pub passes : List (List ℕ) → List ℕ → Bool
-passes filter text = has_none filter || list_any (λ one. str_eq_ignore_ascii_case one text) filter
+passes filter word = (length filter == 0) || has_word filter word
 
 abbrev pub state_text : GroupState → List ℕ
 state_text Empty = codes "Empty"

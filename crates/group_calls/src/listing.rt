@@ -1,8 +1,9 @@
 // ListGroups.
 ghost use Rattle.std.specs.Prelude.{◌≡◌, ◌≤◌, ◌++◌, map, [], IfOk, OnOk};
 ghost use Rattle.std.specs.List.{range_with_len};
+ghost use Rattle.std.specs.Str.{str_eq_ignore_ascii_case};
 ghost use Rattle.topic_conf.specs.Topics.{partitions};
-ghost use Rattle.group_calls.specs.Listing.{groups_reply, listed_group, listed_groups, passes, state_text, tables_entry, wanted_of, wants, with_names, with_rows, groups_entries};
+ghost use Rattle.group_calls.specs.Listing.{groups_entries, groups_reply, has_word, listed_group, listed_groups, passes, state_text, tables_entry, wanted_of, wants, with_names, with_rows};
 
 use call_fold::Entry;
 use describe_calls::shards_of;
@@ -51,11 +52,24 @@ pub struct GroupsPlan {
     pub left: VecDeque<Entry<GroupsAsk, GroupsRow>>,
 }
 
-// Whether a filter has the text, whatever the case of its letters. One without texts has each.
-fn passes(filter: &[Text], text: &str) -> bool
-    ensures { result ≡ passes filter.now text.now }
+// Whether a text is the word, whatever the case of its letters.
+fn is_word(text: &str, word: &str) -> bool
+    ensures { result ≡ str_eq_ignore_ascii_case text.now word.now }
 {
-    filter.is_empty() || filter.iter().any(|one| one.as_str().eq_ignore_ascii_case(text))
+    text.eq_ignore_ascii_case(word)
+}
+
+fn has_word(filter: &[Text], word: &str) -> bool
+    ensures { result ≡ has_word filter.now word.now }
+{
+    filter.iter().any(|one| is_word(one.as_str(), word))
+}
+
+// Whether a filter has the word. One without texts has each.
+fn passes(filter: &[Text], word: &str) -> bool
+    ensures { result ≡ passes filter.now word.now }
+{
+    filter.is_empty() || has_word(filter, word)
 }
 
 fn state_text(state: GroupState) -> &'static str
@@ -151,7 +165,7 @@ fn listed_groups(
 ) -> Result<Items<ListedGroup>, NoMemory>
     ensures { IfOk result (λ list. list ≡ listed_groups wanted groups.now.entries) }
 {
-    let mut list = Vec::new(alloc);
+    let mut list = Vec::with_capacity(alloc, groups.len())?;
     for (name, state) in groups.iter() {
         if wants(wanted, *state) {
             list.push(listed_group(alloc, name, *state)?)?;
