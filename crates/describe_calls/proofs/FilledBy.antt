@@ -17,7 +17,7 @@ module _ {Q R X : Type 0} (entry : X → Entry Q R) where
         asks x (map entry xs ++ es) ∙ ap (λ l. own x ++ l) (questions_all xs es) ∙ sym (append_assoc (own x) (flat_map own xs) (questions_of es))
 
   module _ {A : Type 0} (row : Q → A → R) (answers : X → List A) (own : X → R)
-    (makes : (x : X) (es : List (Entry Q R)) (ans : List A) → filled row (entry x ∷ es) (answers x ++ ans) ≡ own x ∷ filled row es ans) where
+      (makes : (x : X) (es : List (Entry Q R)) (ans : List A) → filled row (entry x ∷ es) (answers x ++ ans) ≡ own x ∷ filled row es ans) where
     pub filled_all : (xs : List X) (es : List (Entry Q R)) (ans : List A) →
         filled row (map entry xs ++ es) (flat_map answers xs ++ ans) ≡ map own xs ++ filled row es ans
     filled_all [] es ans = refl

@@ -1,7 +1,6 @@
 -- The rows of a group are as many as its questions, and stand in front of those of the others.
 use Rattle.std.proofs.Common.{◌≡◌, ◌+◌, ℕ, Bool, true, false, List, [], ◌∷◌, ◌++◌, Option, length, take, drop, map, refl, ap, subst, suc, arith}
 use Rattle.std.specs.Bool.{if◌then◌else◌}
-use Rattle.describe_calls.specs.declared.looks.GroupRow.{GroupRow}
 use Rattle.describe_calls.specs.declared.looks.GroupRow.TheVariants.{Members, Table}
 use Rattle.describe_calls.specs.declared.looks.TableRow.{TableRow}
 use Rattle.describe_calls.specs.declared.summary.GroupSummary.{GroupSummary}

@@ -4,7 +4,7 @@
 -- and a group that isn't there code 69 and no topics.
 -- For example of a table that starts at 2 with the lag 5 the reply tells 2 and 5, and of a group that nobody knows 69 (layer_rows,
 -- `a table, a partition without one, and one that is not hosted`).
-use Rattle.std.specs.Prelude.{◌+◌, ℕ, ℤ, pos, negsuc, Bool, Option, Some, None, List, [], ◌∷◌, map, take, drop, slice_get, if◌then◌else◌}
+use Rattle.std.specs.Prelude.{◌+◌, ℕ, ℤ, pos, negsuc, Option, Some, None, List, [], ◌∷◌, map, take, drop, slice_get, if◌then◌else◌}
 use Rattle.std.specs.List.{range_with_len}
 use Rattle.std.specs.Option.{option_map, unwrap_or}
 use Rattle.uuid.specs.Parts.{zero_bytes}

@@ -4,7 +4,7 @@
 -- project's own, where a number above 2^63 - 1 is told as that.
 -- For example of two partitions a group without members and with a table on the second one has the rows no members, no table and a
 -- table, and is there (layer_rows, `a group without members that has a table is there`).
-use Rattle.std.specs.Prelude.{◌+◌, ◌<◌, ◌^◌, ℕ, ℤ, pos, negsuc, min, Bool, ◌&&◌, false, Option, Some, None, is_some, List, [], ◌∷◌, map, length, nat_le, slice_get, if◌then◌else◌}
+use Rattle.std.specs.Prelude.{◌+◌, ◌<◌, ◌^◌, ℕ, ℤ, pos, negsuc, min, Bool, ◌&&◌, Option, Some, None, is_some, List, [], ◌∷◌, map, length, nat_le, if◌then◌else◌}
 use Rattle.std.specs.List.{list_any, range_with_len}
 use Rattle.share_model.specs.declared.fault.Code.{Code}
 use Rattle.share_model.specs.ErrorCodes.{numbered}
@@ -18,7 +18,6 @@ use Rattle.describe_calls.specs.declared.looks.GroupAsk.TheVariants.{Members as 
 use Rattle.describe_calls.specs.declared.looks.GroupRow.{GroupRow}
 use Rattle.describe_calls.specs.declared.looks.GroupRow.TheVariants.{Members, Table}
 use Rattle.describe_calls.specs.declared.looks.TableRow.{TableRow}
-use Rattle.describe_calls.specs.declared.summary.GroupSummary.{GroupSummary}
 
 -- Kafka's code for a group that isn't there
 abbrev pub GROUP_ID_NOT_FOUND : Code

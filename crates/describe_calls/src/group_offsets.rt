@@ -58,11 +58,7 @@ pub struct GroupOffsetsPlan {
     pub left: VecDeque<Entry<GroupAsk, GroupRow>>,
 }
 
-fn asked_topic(
-    alloc: Global,
-    conf: &Config,
-    topic: NamedTopic<i32>,
-) -> Result<AskedTopic, NoMemory>
+fn asked_topic(alloc: Global, conf: &Config, topic: NamedTopic<i32>) -> Result<AskedTopic, NoMemory>
     ensures { IfOk result (λ asked. asked ≡ asked_topic conf.now.topics topic) }
 {
     let NamedTopic { name, partitions } = topic;

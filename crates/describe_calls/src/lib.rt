@@ -20,7 +20,5 @@ pub use law::{each_partition_is_told_by_its_own_log, each_table_is_told_by_its_o
 pub use looks::{
     GROUP_ID_NOT_FOUND, GroupAsk, GroupRow, TableRow, is_there, plan_group, shards_of, table_row,
 };
-pub use offsets::{
-    End, LogEnds, OffsetAsk, OffsetsPlan, offset_row, offsets_body, plan_offsets,
-};
+pub use offsets::{End, LogEnds, OffsetAsk, OffsetsPlan, offset_row, offsets_body, plan_offsets};
 pub use summary::{AssignedPartitions, GroupSummary, MemberSummary};

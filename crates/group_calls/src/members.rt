@@ -6,8 +6,8 @@ ghost use Rattle.group_calls.specs.Members.{assigned_row, bare_group, described_
 
 use call_fold::{Entry, next_rows};
 use describe_calls::{
-    AssignedPartitions, GROUP_ID_NOT_FOUND, GroupAsk, GroupRow, GroupSummary, MemberSummary, is_there,
-    plan_group, shards_of,
+    AssignedPartitions, GROUP_ID_NOT_FOUND, GroupAsk, GroupRow, GroupSummary, MemberSummary,
+    is_there, plan_group, shards_of,
 };
 use flex_fields::{Bytes, Items, Text};
 use log_calls::NamedShape;
@@ -161,11 +161,7 @@ fn bare_group(alloc: Global, id: Text, state: &str, code: Code) -> Result<Descri
 }
 
 // What it tells of the group with these rows.
-fn described_group(
-    alloc: Global,
-    id: Text,
-    rows: &[GroupRow],
-) -> Result<DescribedGroup, NoMemory>
+fn described_group(alloc: Global, id: Text, rows: &[GroupRow]) -> Result<DescribedGroup, NoMemory>
     ensures { IfOk result (λ told. told ≡ described_group id rows.now) }
 {
     if let Some(GroupRow::Members(members)) = rows.first() {

@@ -5,6 +5,7 @@ use crate::formats::Formats;
 use crate::links::Links;
 use crate::merges::Merges;
 use crate::parts::Parts;
+use crate::queues::queue_told;
 use crate::runs::StoredRuns;
 use crate::stores::Stores;
 use crate::texts::Texts;
@@ -26,6 +27,7 @@ enum Layer {
     Waits,
     Merges,
     Texts,
+    Queues,
     Consumers,
 }
 
@@ -57,6 +59,7 @@ fn layer_of(name: &str) -> Option<Layer> {
         "waits" => Some(Layer::Waits),
         "merges" => Some(Layer::Merges),
         "texts" => Some(Layer::Texts),
+        "queues" => Some(Layer::Queues),
         "consumers" => Some(Layer::Consumers),
         _ => None,
     }
@@ -113,6 +116,7 @@ impl Case {
             Layer::Waits => self.waits.told(alloc, kind, words),
             Layer::Merges => self.merges.told(alloc, kind, words),
             Layer::Texts => self.texts.told(alloc, kind, words),
+            Layer::Queues => queue_told(alloc, kind, words),
             Layer::Consumers => self.consumers.told(alloc, kind, words),
         }
     }

@@ -2,7 +2,7 @@
 //! and clocks in memory, windows, runs, waits, merges of tapes, texts, and a share consumer.
 //!
 //! A line `layer NAME` before the cases of a file says which they are about: `formats`, `stores`, `adapters`,
-//! `links`, `windows`, `runs`, `parts`, `waits`, `merges`, `texts` or `consumers`. The head of the file with that name
+//! `links`, `windows`, `runs`, `parts`, `waits`, `merges`, `texts`, `queues` or `consumers`. The head of the file with that name
 //! in `src/` says which lines there are.
 #![tactic(auto)]
 
@@ -25,6 +25,7 @@ mod merges;
 mod messages;
 mod parts;
 mod plain;
+mod queues;
 mod records;
 mod runs;
 mod sessions;
