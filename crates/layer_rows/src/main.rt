@@ -13,7 +13,7 @@ mod bay;
 mod calls;
 mod case;
 mod consumers;
-mod describe_calls;
+mod described;
 mod disks;
 mod fakes;
 mod formats;

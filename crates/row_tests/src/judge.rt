@@ -10,7 +10,9 @@ use edge_mem::{MemBay, MemSink, MemSource};
 use row_text::compared;
 use session_script::{ScriptReader, Taken, write_event};
 use share_model::Reset;
-use share_top::{Address, BayChoice, ServeWords, Words, bay_choice, run_alone, serve_words};
+use share_top::{
+    Address, BayChoice, ServeWords, Words, bay_choice, consume_words, run_alone, serve_words,
+};
 use std::alloc::Global;
 use std::io;
 use std::io::ErrorKind;
@@ -24,7 +26,7 @@ struct Ran {
     bay: MemBay,
 }
 
-// Runs a command that is none of a server, and tells its status.
+// Runs a command that is none of a server or of a share consumer, and tells its status.
 fn run_command(
     alloc: Global,
     words: &[String],
@@ -39,6 +41,12 @@ fn run_command(
         return Err(io::Error::from(ErrorKind::OutOfMemory));
     };
     if served.is_some() {
+        return Err(io::Error::from(ErrorKind::Unsupported));
+    }
+    let Ok(consumed) = consume_words(alloc, words) else {
+        return Err(io::Error::from(ErrorKind::OutOfMemory));
+    };
+    if consumed.is_some() {
         return Err(io::Error::from(ErrorKind::Unsupported));
     }
     Ok(run_alone(alloc, words, input, output, bay))
@@ -221,6 +229,15 @@ pub fn judge_settings(alloc: Global, case: &Case, wanted: &str) -> io::Result<Op
         }
         Ok(Words::Serve { listen, words }) => {
             compared(alloc, server(alloc, &listen, &words)?.as_str(), wanted)
+        }
+        Ok(Words::Consume { connect, conf }) => {
+            let (host, port) = (connect.host.as_str(), connect.port);
+            let (group, member) = (conf.group.as_str(), conf.member.as_str());
+            let (topic, count) = (conf.topic.as_str(), conf.count);
+            let text = format!(in alloc;
+                "connect {host}:{port} group {group} member {member} topic {topic} count {count}"
+            )?;
+            compared(alloc, text.as_str(), wanted)
         }
         Err(fault) => Ok(Some(format!(in alloc; "{fault:?}")?)),
     }
